@@ -1,0 +1,4 @@
+pub mod States
+pub mod Systems
+pub mod Lines
+pub mod Examples

@@ -1,0 +1,137 @@
+// Calls on a table, each printed with its answer.
+use sets::SetKind;
+use std::alloc::AllocError;
+use std::io;
+use tables::Row;
+use tables::Table;
+use tables::TableFault;
+
+// Row memory of so many places.
+pub fn memory<K: SetKind>(rt: &LibcRuntime, places: usize) -> Result<Vec<Row<K>>, AllocError> {
+    let mut rows = Vec::new(rt.alloc());
+    for _ in 0..places {
+        rows.push(Row::empty())?;
+    }
+    Ok(rows)
+}
+
+// Judges an item count for tables of the kind.
+pub fn judge<K: SetKind>(rt: &LibcRuntime, items: usize) -> io::Result<()> {
+    print!(rt, "judge {items} items: ")?;
+    match Table::<K>::judge(items) {
+        Ok(()) => println!(rt, "permitted"),
+        Err(fault) => refused(rt, &fault),
+    }
+}
+
+// Says what a table is that was just opened.
+pub fn opened<K: SetKind>(
+    rt: &LibcRuntime,
+    name: &str,
+    table: &Table<K>,
+    asked: usize,
+) -> io::Result<()> {
+    let items = table.item_count();
+    let capacity = table.capacity();
+    println!(
+        rt,
+        "{name}: opened for {asked} items: item count {items}, capacity {capacity}"
+    )
+}
+
+pub fn put<K: SetKind>(
+    rt: &LibcRuntime,
+    name: &str,
+    table: &mut Table<K>,
+    items: &[usize],
+) -> io::Result<()> {
+    print!(rt, "{name}: put ")?;
+    list(rt, items)?;
+    print!(rt, ": ")?;
+    match table.put(items) {
+        Ok(removed) => println!(rt, "accepted, rows removed: {removed}"),
+        Err(fault) => refused(rt, &fault),
+    }
+}
+
+pub fn strike<K: SetKind>(
+    rt: &LibcRuntime,
+    name: &str,
+    table: &mut Table<K>,
+    row: usize,
+) -> io::Result<()> {
+    print!(rt, "{name}: strike row {row}: ")?;
+    match table.strike(row) {
+        Ok(()) => println!(rt, "struck"),
+        Err(fault) => refused(rt, &fault),
+    }
+}
+
+// Shows one row by its number.
+pub fn row<K: SetKind>(
+    rt: &LibcRuntime,
+    name: &str,
+    table: &Table<K>,
+    row: usize,
+) -> io::Result<()> {
+    print!(rt, "{name}: row {row}: ")?;
+    match table.row(row) {
+        Ok(set) => members(rt, set),
+        Err(fault) => refused(rt, &fault),
+    }
+}
+
+// Shows all rows.
+pub fn rows<K: SetKind>(rt: &LibcRuntime, name: &str, table: &Table<K>) -> io::Result<()> {
+    let count = table.row_count();
+    let capacity = table.capacity();
+    println!(rt, "{name}: {count} rows in {capacity} places")?;
+    for i in 0..count {
+        row(rt, name, table, i)?;
+    }
+    Ok(())
+}
+
+// A refusal: its number, what it means, and the value that comes with it.
+fn refused(rt: &LibcRuntime, fault: &TableFault) -> io::Result<()> {
+    let number = fault.number();
+    let value = fault.value();
+    let what = match *fault {
+        TableFault::ItemCount(_) => "item count",
+        TableFault::NoSuchItem(_) => "no such item, at place",
+        TableFault::Repeated(_) => "an item a second time, at place",
+        TableFault::CannotHold(_) => "more than the kind can hold, at place",
+        TableFault::Contains(_) => "it contains row",
+        TableFault::Full(_) => "no free place, capacity",
+        TableFault::NoSuchRow(_) => "no such row, row count",
+    };
+    println!(rt, "refused {number}: {what} {value}")
+}
+
+// A list of item numbers.
+fn list(rt: &LibcRuntime, items: &[usize]) -> io::Result<()> {
+    print!(rt, "{{")?;
+    for (i, item) in items.iter().enumerate() {
+        if i > 0 {
+            print!(rt, ", ")?;
+        }
+        print!(rt, "{item}")?;
+    }
+    print!(rt, "}}")
+}
+
+// The members of a set, in ascending order.
+fn members<K: SetKind>(rt: &LibcRuntime, set: &K) -> io::Result<()> {
+    print!(rt, "{{")?;
+    let mut first = true;
+    for k in 0..K::ceiling() {
+        if set.member(k) {
+            if !first {
+                print!(rt, ", ")?;
+            }
+            first = false;
+            print!(rt, "{k}")?;
+        }
+    }
+    println!(rt, "}}")
+}
