@@ -89,4 +89,13 @@ impl<'a, K: SetKind> Memory<'a, K> {
         let places = &*self.places;
         &places[place].set
     }
+
+    // The first `count` places.
+    pub(crate) fn front(&self, count: usize) -> &[Row<K>]
+        requires { ⌜ count ≤ length (now (now self .places)) ⌝ }
+        ensures { λ r. ⌜ now r ≡ take count (now (now (self .entry) .places)) ⌝ }
+    {
+        let places = &*self.places;
+        &places[0..count]
+    }
 }

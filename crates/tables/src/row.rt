@@ -1,4 +1,5 @@
 // A place of a table's memory.
+ghost use mathlib.Core.Path.{_≡_};
 ghost use Rattle.sets.specs.Sets.{nothing, Same};
 use sets::SetKind;
 
@@ -13,5 +14,11 @@ impl<K: SetKind> Row<K> {
         ensures { λ r. ⌜ Same (mem (r .set)) nothing ⌝ }
     {
         Row { set: K::empty() }
+    }
+    // The set of the row's items.
+    pub fn set(&self) -> &K
+        ensures { λ r. ⌜ now r ≡ now (self .entry) .set ⌝ }
+    {
+        &self.set
     }
 }

@@ -18,4 +18,5 @@ pub struct Table<'a, K: SetKind> {
     ghost fits: { count ≤ capacity },
     ghost inside: { capacity ≤ length (now (memory .places)) },
     ghost few: { capacity ≤ 4096 },
+    ghost small: { items ≤ 256 },
 }

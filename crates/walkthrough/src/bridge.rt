@@ -19,7 +19,8 @@ pub fn draw(rt: &LibcRuntime) -> io::Result<()> {
     type_paths(rt, &mut paths)?;
     type_cuts(rt, &mut cuts)?;
     show::rows(rt, "paths", &paths)?;
-    show::rows(rt, "cuts", &cuts)
+    show::rows(rt, "cuts", &cuts)?;
+    compare(rt, &mut paths, &mut cuts)
 }
 
 // A table opened with a count that is not permitted answers 1 to every call.
@@ -56,4 +57,26 @@ fn type_cuts(rt: &LibcRuntime, cuts: &mut Table<WordSet>) -> io::Result<()> {
     show::strike(rt, "cuts", cuts, 4)?;
     show::strike(rt, "cuts", cuts, 1)?;
     show::put(rt, "cuts", cuts, &[1, 4, 2])
+}
+
+fn compare(
+    rt: &LibcRuntime,
+    paths: &mut Table<WordSet>,
+    cuts: &mut Table<WordSet>,
+) -> io::Result<()> {
+    show::audited(rt, paths, cuts)?;
+    println!(rt, "one row short:")?;
+    show::strike(rt, "cuts", cuts, 3)?;
+    show::audited(rt, paths, cuts)?;
+    println!(rt, "one row wrong:")?;
+    show::put(rt, "cuts", cuts, &[2, 4])?;
+    show::audited(rt, paths, cuts)?;
+    println!(rt, "mended:")?;
+    show::strike(rt, "cuts", cuts, 3)?;
+    show::put(rt, "cuts", cuts, &[1, 2, 4])?;
+    show::audited(rt, paths, cuts)?;
+    println!(rt, "every cut meets every path, and still they differ:")?;
+    show::strike(rt, "paths", paths, 3)?;
+    show::strike(rt, "paths", paths, 2)?;
+    show::audited(rt, paths, cuts)
 }

@@ -21,7 +21,11 @@ pub fn draw(rt: &LibcRuntime) -> io::Result<()> {
     type_paths(rt, &mut paths)?;
     type_cuts(rt, &mut cuts)?;
     show::rows(rt, "paths", &paths)?;
-    show::rows(rt, "cuts", &cuts)
+    show::rows(rt, "cuts", &cuts)?;
+    show::audited(rt, &paths, &cuts)?;
+    println!(rt, "one row short:")?;
+    show::strike(rt, "cuts", &mut cuts, 4)?;
+    show::audited(rt, &paths, &cuts)
 }
 
 fn type_paths(rt: &LibcRuntime, paths: &mut Table<ListSet>) -> io::Result<()> {

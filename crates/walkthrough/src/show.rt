@@ -1,7 +1,11 @@
 // Calls on a table, each printed with its answer.
+use duality::PairFault;
+use duality::Verdict;
+use duality::audit;
 use sets::SetKind;
 use std::alloc::AllocError;
 use std::io;
+use systems::State;
 use tables::Row;
 use tables::Table;
 use tables::TableFault;
@@ -90,6 +94,51 @@ pub fn rows<K: SetKind>(rt: &LibcRuntime, name: &str, table: &Table<K>) -> io::R
         row(rt, name, table, i)?;
     }
     Ok(())
+}
+
+// Audits the two tables.
+pub fn audited<K: SetKind>(rt: &LibcRuntime, paths: &Table<K>, cuts: &Table<K>) -> io::Result<()> {
+    print!(rt, "audit: ")?;
+    match audit(paths, cuts) {
+        Ok(verdict) => said(rt, &verdict),
+        Err(PairFault::ItemCount(count)) => println!(rt, "refused 1: item count {count}"),
+        Err(PairFault::CountsDiffer(first, second)) => {
+            println!(rt, "refused 8: item counts {first} and {second}")
+        }
+    }
+}
+
+// A verdict, with the items that are up and those that are down in the state that it shows.
+fn said(rt: &LibcRuntime, verdict: &Verdict) -> io::Result<()> {
+    let name = match *verdict {
+        Verdict::Same => "SAME",
+        Verdict::Miss(_) => "MISS",
+        Verdict::Both(_) => "BOTH",
+    };
+    let state = verdict.shown();
+    if state.count() == 0 {
+        return println!(rt, "{name}");
+    }
+    print!(rt, "{name}, up ")?;
+    marked(rt, &state, true)?;
+    print!(rt, ", down ")?;
+    marked(rt, &state, false)?;
+    println!(rt, "")
+}
+
+fn marked(rt: &LibcRuntime, state: &State, up: bool) -> io::Result<()> {
+    print!(rt, "{{")?;
+    let mut first = true;
+    for item in 0..state.count() {
+        if state.is_up(item) == up {
+            if !first {
+                print!(rt, ", ")?;
+            }
+            first = false;
+            print!(rt, "{item}")?;
+        }
+    }
+    print!(rt, "}}")
 }
 
 // A refusal: its number, what it means, and the value that comes with it.

@@ -1,0 +1,10 @@
+use Prim.Native.Nat.{ℕ, _<_}
+use mathlib.Core.List.{map}
+use lib.ListN.{getD}
+use Rattle.sets.specs.Sets.{nothing, Within}
+use Rattle.systems.specs.States.{up}
+use Rattle.tables.specs.Memory.{meant}
+use Rattle.duality.proofs.rows.works.Given as given
+
+abbrev pub Inv-loop-row : given.InvT-loop-row
+Inv-loop-row g l = (i : ℕ) → i < l .row-index → Within (getD (map (meant (g .K·SetKind .mem)) (l .paths)) i nothing) (up (l .state)) → ⊥

@@ -1,0 +1,5 @@
+pub mod Pairs
+pub mod Verdicts
+pub mod Shares
+pub mod Halves
+pub mod Searches
