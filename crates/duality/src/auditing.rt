@@ -7,7 +7,6 @@ ghost use Rattle.std.specs.Options.{Cases as BySome};
 ghost use Rattle.std.specs.Orderings.{Decides};
 ghost use Rattle.std.specs.Results.{Cases};
 ghost use Rattle.sets.specs.Sets.{Numbers, nothing};
-ghost use Rattle.systems.specs.States.{up};
 ghost use Rattle.systems.specs.Systems.{Fails};
 ghost use Rattle.tables.specs.Memory.{meant};
 ghost use Rattle.tables.specs.Pasts.{Past};
@@ -18,12 +17,12 @@ use crate::fault::PairFault;
 use crate::search::Search;
 use crate::verdict::Verdict;
 use sets::SetKind;
-use systems::State;
+use systems::alone_up;
 use tables::Row;
 use tables::Table;
 
 // Checks the item counts of two tables, and answers the count.
-pub(crate) fn check_pair<K: SetKind>(paths: &Table<K>, cuts: &Table<K>) -> Result<usize, PairFault>
+pub fn check_pair<K: SetKind>(paths: &Table<K>, cuts: &Table<K>) -> Result<usize, PairFault>
     ensures checks { λ r. ⌜ Pairs (now (paths .entry) .items) (now (cuts .entry) .items) (checked r) ⌝ }
     ensures count { λ r. ⌜ Cases r (λ n. (n ≡ now (paths .entry) .items) × (n ≡ now (cuts .entry) .items)) (λ _. Unit {0}) ⌝ }
 {
@@ -63,18 +62,6 @@ pub(crate) fn first_apart<K: SetKind>(paths: &[Row<K>], cuts: &[Row<K>]) -> Opti
         }
     }
     None
-}
-
-// The state of n items in which just those of the set are up.
-pub(crate) fn alone_up<K: SetKind>(n: usize, set: &K) -> State
-    ensures count { λ r. ⌜ (n ≤ 256 → r .count ≡ n) ⌝ }
-    ensures marks { λ r. ⌜ ((k : ℕ) → k < r .count → up r k ≡ mem (now (set .entry)) k) ⌝ }
-{
-    let mut state = State::new(n);
-    for item in 0..state.count() {
-        state.set(item, set.member(item));
-    }
-    state
 }
 
 // Whether both tables describe the same system; else a state that both cover, or one that neither covers.

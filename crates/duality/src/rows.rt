@@ -1,41 +1,14 @@
 // Rows against a state.
 ghost use mathlib.Core.List.{map};
 ghost use Rattle.std.specs.Orderings.{Decides};
-ghost use Rattle.sets.specs.Sets.{Within, Apart};
 ghost use Rattle.systems.specs.States.{up};
 ghost use Rattle.systems.specs.Systems.{Works, Fails};
 ghost use Rattle.tables.specs.Memory.{meant};
 use sets::SetKind;
 use systems::State;
+use systems::all_down;
+use systems::all_up;
 use tables::Row;
-
-// Whether all items of the set are up.
-pub(crate) fn all_up<K: SetKind>(set: &K, state: &State) -> bool
-    ensures { λ r. ⌜ Decides r (Within (mem (now (set .entry))) (up (now (state .entry)))) ⌝ }
-{
-    let mut at = 0;
-    while let Some(item) = set.next(at) {
-        if !state.is_up(item) {
-            return false;
-        }
-        at = item + 1;
-    }
-    true
-}
-
-// Whether all items of the set are down.
-pub(crate) fn all_down<K: SetKind>(set: &K, state: &State) -> bool
-    ensures { λ r. ⌜ Decides r (Apart (mem (now (set .entry))) (up (now (state .entry)))) ⌝ }
-{
-    let mut at = 0;
-    while let Some(item) = set.next(at) {
-        if state.is_up(item) {
-            return false;
-        }
-        at = item + 1;
-    }
-    true
-}
 
 // Whether some path is up.
 pub(crate) fn works<K: SetKind>(paths: &[Row<K>], state: &State) -> bool

@@ -7,10 +7,10 @@ ghost use Rattle.sets.specs.Sets.{Numbers};
 ghost use Rattle.systems.specs.States.{up};
 ghost use Rattle.tables.specs.Memory.{meant};
 ghost use Rattle.duality.specs.Shares.{Tallied, left-paths, left-cuts};
-use crate::rows::all_down;
-use crate::rows::all_up;
 use sets::SetKind;
 use systems::State;
+use systems::all_down;
+use systems::all_up;
 use tables::Row;
 
 #[derive(Clone, Copy)]

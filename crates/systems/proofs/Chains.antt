@@ -21,7 +21,7 @@ use Rattle.systems.specs.declared.line.Line.{Line}
 decides-T : (b : Bool) → Decides b (T b)
 decides-T b = (true-holds b, holds-true b)
 
-decides-leb : (a b : ℕ) → Decides (leb a b) (a ≤ b)
+pub decides-leb : (a b : ℕ) → Decides (leb a b) (a ≤ b)
 decides-leb a b = (leb-true a b, le-leb a b)
 
 -- Counts
@@ -30,7 +30,7 @@ one-most : (b : Bool) → one b ≤ 1
 one-most true = omega arith
 one-most false = omega arith
 
-count-most : (s : Numbers) (n : ℕ) → count s n ≤ n
+pub count-most : (s : Numbers) (n : ℕ) → count s n ≤ n
 unfolding count
 count-most s zero = omega arith
 count-most s (suc n) = omega (arith, one-most (s n), count-most s n)
@@ -39,7 +39,7 @@ one-has : (b : Bool) → T b → 1 ≤ one b
 one-has true t = omega arith
 one-has false t = absurd t
 
-count-has : (s : Numbers) (n : ℕ) → T (s 0) → 1 ≤ n → 1 ≤ count s n
+pub count-has : (s : Numbers) (n : ℕ) → T (s 0) → 1 ≤ n → 1 ≤ count s n
 unfolding count
 count-has s zero t h = absurd (omega arith)
 count-has s (suc zero) t h = omega (arith, one-has (s 0) t)
@@ -51,7 +51,7 @@ one-back true false h = absurd (omega arith)
 one-back false b h = λ t. absurd t
 
 -- a larger set with no more members is the same
-count-back : (s t : Numbers) → Within s t → (n : ℕ) → count t n ≤ count s n → (k : ℕ) → k < n → T (t k) → T (s k)
+pub count-back : (s t : Numbers) → Within s t → (n : ℕ) → count t n ≤ count s n → (k : ℕ) → k < n → T (t k) → T (s k)
 unfolding count
 count-back s t h zero le k l = absurd (omega arith)
 count-back s t h (suc n) le k l =

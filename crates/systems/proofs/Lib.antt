@@ -1,6 +1,9 @@
 pub mod Marks
 pub mod Chains
+pub mod Passes
+pub mod Reaching
 pub mod Tables
+pub mod UpRows
 pub mod AllSets
 pub mod Minimal
 pub mod Worked

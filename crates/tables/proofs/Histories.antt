@@ -80,7 +80,7 @@ kept-part q (x ∷ xs) =
       | false ↦ part-skip x xs (kept-by q xs) (kept-part q xs)
     ]
 
-kept-passes : (q : Numbers → Bool) (xs : List Numbers) → EachRow (kept-by q xs) (λ r. q r ≡ true)
+pub kept-passes : (q : Numbers → Bool) (xs : List Numbers) → EachRow (kept-by q xs) (λ r. q r ≡ true)
 kept-passes q [] i h = absurd (omega arith)
 kept-passes q (x ∷ xs) i h = go (q x) refl (kept-passes q xs) i h where
   go : (b : Bool) → q x ≡ b → EachRow (kept-by q xs) (λ r. q r ≡ true) → EachRow (cond b (x ∷ kept-by q xs) (kept-by q xs)) (λ r. q r ≡ true)
@@ -106,7 +106,7 @@ removed-part xs row lt =
 push-cases : (xs : List Numbers) (r : Numbers) (i : ℕ) → i < length (xs ++ r ∷ []) → (i < length xs) ⊎ (length xs ≡ i)
 push-cases xs r i h = let n = length-push xs r in ⊎-elim (λ (l : i < length xs). inl l) (λ (l : length xs ≤ i). inr (omega arith)) (cases-lt i (length xs))
 
-push-each : (P : Numbers → Type 0) (xs : List Numbers) (r : Numbers) → EachRow xs P → P r → EachRow (xs ++ r ∷ []) P
+pub push-each : (P : Numbers → Type 0) (xs : List Numbers) (r : Numbers) → EachRow xs P → P r → EachRow (xs ++ r ∷ []) P
 push-each P xs r each p i h = ⊎-elim
     (λ (l : i < length xs). subst P (sym (getD-append-left xs (r ∷ []) nothing i l)) (each i l))
     (λ (e : length xs ≡ i). subst P (sym (getD-push xs r nothing i e)) p)
@@ -132,7 +132,7 @@ push-antichain xs r anti new out i j hi hj w = ⊎-elim
 -- ---- sound rows
 
 module _ (n capacity : ℕ) (holds : Numbers → Type 0) (rows : List Numbers) where
-  sound-put : (r : Numbers) → Accepted n capacity holds rows r → Sound n capacity holds rows → Sound n capacity holds (after-put n rows r)
+  pub sound-put : (r : Numbers) → Accepted n capacity holds rows r → Sound n capacity holds rows → Sound n capacity holds (after-put n rows r)
   sound-put r a s =
       let p = kept-part (stays n r) rows in
       let left = staying n rows r in
@@ -145,7 +145,7 @@ module _ (n capacity : ℕ) (holds : Numbers → Type 0) (rows : List Numbers) w
         few = let l = length-push left r in omega (arith, a .room);
       }
 
-  sound-struck : (row : ℕ) → row < length rows → Sound n capacity holds rows → Sound n capacity holds (removed rows row)
+  pub sound-struck : (row : ℕ) → row < length rows → Sound n capacity holds rows → Sound n capacity holds (removed rows row)
   sound-struck row lt s =
       let p = removed-part rows row lt in
       record {

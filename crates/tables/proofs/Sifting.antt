@@ -25,7 +25,7 @@ stays-same : (n m : ℕ) (r : Numbers) → Below n r → Below m r → stays n r
 stays-same n m r a b = fun-ext (λ s. ap (λ f. not (f s)) (within-same n m r a b))
 
 -- a filter that keeps as many keeps all
-kept-fewer : {X : Type 0} (p : X → Bool) (xs : List X) → length (kept-by p xs) ≤ length xs
+pub kept-fewer : {X : Type 0} (p : X → Bool) (xs : List X) → length (kept-by p xs) ≤ length xs
 kept-fewer p [] = omega arith
 kept-fewer p (x ∷ xs) = elim (p x) as (λ b. length (cond b (x ∷ kept-by p xs) (kept-by p xs)) ≤ suc (length xs)) [ true ↦ omega (arith, kept-fewer p xs) | false ↦ omega (arith, kept-fewer p xs) ]
 

@@ -1,0 +1,13 @@
+pub mod Minimality
+pub mod Pigeons
+pub mod Listing
+pub mod Shrinking
+pub mod Bearings
+pub mod Items
+pub mod Additions
+pub mod Replied
+pub mod Tightenings
+pub mod Learning
+pub mod Filled
+pub mod Endings
+pub mod Counting

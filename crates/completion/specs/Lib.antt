@@ -1,0 +1,4 @@
+pub mod Sides
+pub mod Offers
+pub mod Fills
+pub mod Completions

@@ -1,0 +1,7 @@
+// The two tables of a figure.
+
+#[derive(Clone, Copy)]
+pub enum Side {
+    Paths,
+    Cuts,
+}
