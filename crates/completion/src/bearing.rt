@@ -22,7 +22,7 @@ pub(crate) fn flipped(state: &State) -> State
 
 // Whether the drawing bears the set out: it works with a path alone up, and does not work with a cut alone down.
 pub(crate) fn bears<D: Drawing>(drawing: &D, side: Side, set: &State) -> bool
-    ensures { set.now.count ≡ (D.Drawing.means drawing.now).items → result ≡ (side_of (D.Drawing.means drawing.now) side).works (up set.now) }
+    ensures { set.now.count ≡ (D.means drawing.now).items → result ≡ (side_of (D.means drawing.now) side).works (up set.now) }
 {
     match side {
         Side::Paths => drawing.works(set),
@@ -34,7 +34,7 @@ pub(crate) fn bears<D: Drawing>(drawing: &D, side: Side, set: &State) -> bool
 pub(crate) fn shrink<D: Drawing>(drawing: &D, side: Side, set: &State) -> State
     ensures count { result.count ≡ set.now.count }
     ensures within { Within (up result) (up set.now) }
-    ensures minimal { set.now.count ≡ (D.Drawing.means drawing.now).items → T ((side_of (D.Drawing.means drawing.now) side).works (up set.now)) → MinimalPath (side_of (D.Drawing.means drawing.now) side) (up result) }
+    ensures minimal { set.now.count ≡ (D.means drawing.now).items → T ((side_of (D.means drawing.now) side).works (up set.now)) → MinimalPath (side_of (D.means drawing.now) side) (up result) }
 {
     let mut least = *set;
     for item in 0..set.count() {

@@ -22,9 +22,9 @@ pub fn complete<K: SetKind, D: Drawing>(
 ) -> Result<(), CompletionFault>
     ensures paths_kept { Kept paths.old paths.new }
     ensures cuts_kept { Kept cuts.old cuts.new }
-    ensures counts { Counts paths.old.items cuts.old.items (D.Drawing.means drawing.now).items (completion_reply result) }
+    ensures counts { Counts paths.old.items cuts.old.items (D.means drawing.now).items (completion_reply result) }
     ensures untouched { Untouched result (Unchanged paths.old paths.new × Unchanged cuts.old cuts.new) }
-    ensures completes { (n : ℕ) (ps cs : List Numbers) → Past n paths.old.capacity cuts.old.capacity holds ps cs → Holds mem paths.old n ps → Holds mem cuts.old n cs → (qs ds : List Numbers) × Holds mem paths.new n qs × Holds mem cuts.new n ds × Completed n paths.old.capacity cuts.old.capacity holds (D.Drawing.means drawing.now) ps cs (completion_reply result) qs ds }
+    ensures completes { (n : ℕ) (ps cs : List Numbers) → Past n paths.old.capacity cuts.old.capacity K.holds ps cs → Holds K.mem paths.old n ps → Holds K.mem cuts.old n cs → (qs ds : List Numbers) × Holds K.mem paths.new n qs × Holds K.mem cuts.new n ds × Completed n paths.old.capacity cuts.old.capacity K.holds (D.means drawing.now) ps cs (completion_reply result) qs ds }
 {
     let n = check_pair(paths, cuts)?;
     let m = drawing.item_count();

@@ -25,7 +25,7 @@ pub(crate) fn add<K: SetKind, D: Drawing>(
 ) -> Result<(), CompletionFault>
     ensures kept { Kept table.old table.new }
     ensures only { OnlyBlocked result }
-    ensures adds { (n : ℕ) (ps : List Numbers) → 1 ≤ n → Holds mem table.old n ps → (D.Drawing.means drawing.now).items ≡ n → set.now.count ≡ n → T ((side_of (D.Drawing.means drawing.now) side).works (up set.now)) → Minimals n table.old.capacity holds (side_of (D.Drawing.means drawing.now) side) ps → (qs : List Numbers) × Holds mem table.new n qs × Adds n table.old.capacity holds (D.Drawing.means drawing.now) side ps (up set.now) result qs }
+    ensures adds { (n : ℕ) (ps : List Numbers) → 1 ≤ n → Holds K.mem table.old n ps → (D.means drawing.now).items ≡ n → set.now.count ≡ n → T ((side_of (D.means drawing.now) side).works (up set.now)) → Minimals n table.old.capacity K.holds (side_of (D.means drawing.now) side) ps → (qs : List Numbers) × Holds K.mem table.new n qs × Adds n table.old.capacity K.holds (D.means drawing.now) side ps (up set.now) result qs }
 {
     let least = shrink(drawing, side, set);
     match offer(table, &least) {
@@ -48,7 +48,7 @@ pub(crate) fn learn<K: SetKind, D: Drawing>(
     ensures paths_kept { Kept paths.old paths.new }
     ensures cuts_kept { Kept cuts.old cuts.new }
     ensures only { OnlyBlocked result }
-    ensures learns { (n : ℕ) (ps cs : List Numbers) → 1 ≤ n → Holds mem paths.old n ps → Holds mem cuts.old n cs → (D.Drawing.means drawing.now).items ≡ n → MissedState n ps cs missed.now → Minimals n paths.old.capacity holds (side_of (D.Drawing.means drawing.now) Side.Paths) ps → Minimals n cuts.old.capacity holds (side_of (D.Drawing.means drawing.now) Side.Cuts) cs → (qs ds : List Numbers) × Holds mem paths.new n qs × Holds mem cuts.new n ds × Learns n paths.old.capacity cuts.old.capacity holds (D.Drawing.means drawing.now) ps cs result qs ds }
+    ensures learns { (n : ℕ) (ps cs : List Numbers) → 1 ≤ n → Holds K.mem paths.old n ps → Holds K.mem cuts.old n cs → (D.means drawing.now).items ≡ n → MissedState n ps cs missed.now → Minimals n paths.old.capacity K.holds (side_of (D.means drawing.now) Side.Paths) ps → Minimals n cuts.old.capacity K.holds (side_of (D.means drawing.now) Side.Cuts) cs → (qs ds : List Numbers) × Holds K.mem paths.new n qs × Holds K.mem cuts.new n ds × Learns n paths.old.capacity cuts.old.capacity K.holds (D.means drawing.now) ps cs result qs ds }
 {
     if drawing.works(missed) {
         add(paths, drawing, Side::Paths, missed)
@@ -66,7 +66,7 @@ pub(crate) fn fill<K: SetKind, D: Drawing>(
     ensures paths_kept { Kept paths.old paths.new }
     ensures cuts_kept { Kept cuts.old cuts.new }
     ensures only { OnlyBlocked result }
-    ensures fills { (n : ℕ) (ps cs : List Numbers) → 1 ≤ n → Holds mem paths.old n ps → Holds mem cuts.old n cs → (D.Drawing.means drawing.now).items ≡ n → Minimals n paths.old.capacity holds (side_of (D.Drawing.means drawing.now) Side.Paths) ps → Minimals n cuts.old.capacity holds (side_of (D.Drawing.means drawing.now) Side.Cuts) cs → (qs ds : List Numbers) × Holds mem paths.new n qs × Holds mem cuts.new n ds × Fills n paths.old.capacity cuts.old.capacity holds (D.Drawing.means drawing.now) ps cs result qs ds }
+    ensures fills { (n : ℕ) (ps cs : List Numbers) → 1 ≤ n → Holds K.mem paths.old n ps → Holds K.mem cuts.old n cs → (D.means drawing.now).items ≡ n → Minimals n paths.old.capacity K.holds (side_of (D.means drawing.now) Side.Paths) ps → Minimals n cuts.old.capacity K.holds (side_of (D.means drawing.now) Side.Cuts) cs → (qs ds : List Numbers) × Holds K.mem paths.new n qs × Holds K.mem cuts.new n ds × Fills n paths.old.capacity cuts.old.capacity K.holds (D.means drawing.now) ps cs result qs ds }
 {
     let mut search = Search::new(paths.item_count());
     let places = paths.capacity() + cuts.capacity();

@@ -1,4 +1,6 @@
 // Both tables of a figure filled from its drawing.
+#![tactic(auto)]
+
 pub mod bearing;
 pub mod completing;
 pub mod fault;

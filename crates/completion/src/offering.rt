@@ -14,7 +14,7 @@ use tables::{Table, TableFault};
 pub(crate) fn offer<K: SetKind>(table: &mut Table<K>, row: &State) -> Result<usize, TableFault>
     ensures kept { Kept table.old table.new }
     ensures refused { OnErr result (Unchanged table.old table.new) }
-    ensures offers { (n : ℕ) (ps : List Numbers) → Holds mem table.old n ps → row.now.count ≡ n → (qs : List Numbers) × Offers n table.old.capacity holds ps (up row.now) (table_reply result) qs × Holds mem table.new n qs }
+    ensures offers { (n : ℕ) (ps : List Numbers) → Holds K.mem table.old n ps → row.now.count ≡ n → (qs : List Numbers) × Offers n table.old.capacity K.holds ps (up row.now) (table_reply result) qs × Holds K.mem table.new n qs }
 {
     let mut items = [0usize; 256];
     let mut len = 0;

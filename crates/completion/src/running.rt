@@ -51,7 +51,7 @@ pub(crate) fn step<K: SetKind, D: Drawing>(
 ) -> Answer
     ensures paths_kept { Kept paths.old paths.new }
     ensures cuts_kept { Kept cuts.old cuts.new }
-    ensures steps { (n : ℕ) (ps cs : List Numbers) → Past n paths.old.capacity cuts.old.capacity holds ps cs → Holds mem paths.old n ps → Holds mem cuts.old n cs → (qs ds : List Numbers) × Holds mem paths.new n qs × Holds mem cuts.new n ds × Past n paths.old.capacity cuts.old.capacity holds qs ds × Step n paths.old.capacity cuts.old.capacity holds (map D.Drawing.means drawings.now) call.now ps cs result qs ds }
+    ensures steps { (n : ℕ) (ps cs : List Numbers) → Past n paths.old.capacity cuts.old.capacity K.holds ps cs → Holds K.mem paths.old n ps → Holds K.mem cuts.old n cs → (qs ds : List Numbers) × Holds K.mem paths.new n qs × Holds K.mem cuts.new n ds × Past n paths.old.capacity cuts.old.capacity K.holds qs ds × Step n paths.old.capacity cuts.old.capacity K.holds (map D.means drawings.now) call.now ps cs result qs ds }
 {
     match *call {
         Call::PutPath(items) => put_answer(paths.put(items)),
@@ -86,8 +86,8 @@ pub fn replay<K: SetKind, D: Drawing>(
 ) -> Replayed
     ensures made { result.made ≡ min (length calls.now) (length answers.old) }
     ensures behind { Beyond result.made answers.old answers.new }
-    ensures permitted { 1 ≤ n → n ≤ top → Replays mem n (min 4096 (length path_memory.old)) (min 4096 (length cut_memory.old)) holds (map D.Drawing.means drawings.now) calls.now answers.new path_memory.old path_memory.new cut_memory.old cut_memory.new result }
-    ensures wrong { (n ≡ 0) ⊎ (top < n) → Replays mem 0 0 0 holds (map D.Drawing.means drawings.now) calls.now answers.new path_memory.old path_memory.new cut_memory.old cut_memory.new result }
+    ensures permitted { 1 ≤ n → n ≤ K.top → Replays K.mem n (min 4096 (length path_memory.old)) (min 4096 (length cut_memory.old)) K.holds (map D.means drawings.now) calls.now answers.new path_memory.old path_memory.new cut_memory.old cut_memory.new result }
+    ensures wrong { (n ≡ 0) ⊎ (K.top < n) → Replays K.mem 0 0 0 K.holds (map D.means drawings.now) calls.now answers.new path_memory.old path_memory.new cut_memory.old cut_memory.new result }
 {
     let made = calls.len().min(answers.len());
     let mut paths = Table::open(path_memory, n);

@@ -18,7 +18,7 @@ pub(crate) fn first_unborne<K: SetKind, D: Drawing>(
     drawing: &D,
     side: Side,
 ) -> Option<usize>
-    ensures { (n : ℕ) (ps : List Numbers) → Holds mem table.now n ps → Sound n table.now.capacity holds ps → (D.Drawing.means drawing.now).items ≡ n → MatchOption result (AllBorne (side_of (D.Drawing.means drawing.now) side) ps) (FirstUnborne (side_of (D.Drawing.means drawing.now) side) ps) }
+    ensures { (n : ℕ) (ps : List Numbers) → Holds K.mem table.now n ps → Sound n table.now.capacity K.holds ps → (D.means drawing.now).items ≡ n → MatchOption result (AllBorne (side_of (D.means drawing.now) side) ps) (FirstUnborne (side_of (D.means drawing.now) side) ps) }
 {
     let n = table.item_count();
     for (i, row) in table.rows().iter().enumerate() {
@@ -32,7 +32,7 @@ pub(crate) fn first_unborne<K: SetKind, D: Drawing>(
 // Each row gives way to a minimal one within it, and rows that come out twice stay once.
 pub(crate) fn tighten<K: SetKind, D: Drawing>(table: &mut Table<K>, drawing: &D, side: Side)
     ensures kept { Kept table.old table.new }
-    ensures tightens { (n : ℕ) (ps : List Numbers) → 1 ≤ n → Holds mem table.old n ps → Sound n table.old.capacity holds ps → (D.Drawing.means drawing.now).items ≡ n → AllBorne (side_of (D.Drawing.means drawing.now) side) ps → (qs : List Numbers) × Holds mem table.new n qs × Tightened n table.old.capacity holds (side_of (D.Drawing.means drawing.now) side) ps qs }
+    ensures tightens { (n : ℕ) (ps : List Numbers) → 1 ≤ n → Holds K.mem table.old n ps → Sound n table.old.capacity K.holds ps → (D.means drawing.now).items ≡ n → AllBorne (side_of (D.means drawing.now) side) ps → (qs : List Numbers) × Holds K.mem table.new n qs × Tightened n table.old.capacity K.holds (side_of (D.means drawing.now) side) ps qs }
 {
     let n = table.item_count();
     // the rows before `at` and from `end` on are minimal

@@ -36,7 +36,7 @@ pub fn check_pair<K: SetKind>(paths: &Table<K>, cuts: &Table<K>) -> Result<usize
 
 // Whether some cut has no item of the set.
 pub(crate) fn some_apart<K: SetKind>(set: &K, cuts: &[Row<K>]) -> bool
-    ensures { Decides result (Fails (map (meant mem) cuts.now) (mem set.now)) }
+    ensures { Decides result (Fails (map (meant K.mem) cuts.now) (K.mem set.now)) }
 {
     for cut in cuts {
         if cut.set().apart(set) {
@@ -48,7 +48,7 @@ pub(crate) fn some_apart<K: SetKind>(set: &K, cuts: &[Row<K>]) -> bool
 
 // The first path with which some cut has no common item.
 pub(crate) fn first_apart<K: SetKind>(paths: &[Row<K>], cuts: &[Row<K>]) -> Option<usize>
-    ensures { MatchOption result ((i : ℕ) → i < length paths.now → Fails (map (meant mem) cuts.now) (slice_index_or (map (meant mem) paths.now) i nothing) → ⊥) (λ i. (i < length paths.now) × Fails (map (meant mem) cuts.now) (slice_index_or (map (meant mem) paths.now) i nothing)) }
+    ensures { MatchOption result ((i : ℕ) → i < length paths.now → Fails (map (meant K.mem) cuts.now) (slice_index_or (map (meant K.mem) paths.now) i nothing) → ⊥) (λ i. (i < length paths.now) × Fails (map (meant K.mem) cuts.now) (slice_index_or (map (meant K.mem) paths.now) i nothing)) }
 {
     for (i, path) in paths.iter().enumerate() {
         if some_apart(path.set(), cuts) {
@@ -61,7 +61,7 @@ pub(crate) fn first_apart<K: SetKind>(paths: &[Row<K>], cuts: &[Row<K>]) -> Opti
 // Whether both tables describe the same system; else a state that both cover, or one that neither covers.
 pub fn audit<K: SetKind>(paths: &Table<K>, cuts: &Table<K>) -> Result<Verdict, PairFault>
     ensures checks { Pairs paths.now.items cuts.now.items (checked result) }
-    ensures audited { (n : ℕ) (ps cs : List Numbers) → Past n paths.now.capacity cuts.now.capacity holds ps cs → Holds mem paths.now n ps → Holds mem cuts.now n cs → MatchResult result (Audited n ps cs) (λ _. n ≡ 0) }
+    ensures audited { (n : ℕ) (ps cs : List Numbers) → Past n paths.now.capacity cuts.now.capacity K.holds ps cs → Holds K.mem paths.now n ps → Holds K.mem cuts.now n cs → MatchResult result (Audited n ps cs) (λ _. n ≡ 0) }
 {
     let n = check_pair(paths, cuts)?;
     let path_rows = paths.rows();

@@ -1,4 +1,6 @@
 // Whether a path table and a cut table describe the same system.
+#![tactic(auto)]
+
 pub mod auditing;
 pub mod choice;
 pub mod fault;

@@ -10,7 +10,7 @@ use tables::Row;
 
 // Whether some path is up.
 pub(crate) fn works<K: SetKind>(paths: &[Row<K>], state: &State) -> bool
-    ensures { Decides result (Works (map (meant mem) paths.now) (up state.now)) }
+    ensures { Decides result (Works (map (meant K.mem) paths.now) (up state.now)) }
 {
     for row in paths {
         if all_up(row.set(), state) {
@@ -22,7 +22,7 @@ pub(crate) fn works<K: SetKind>(paths: &[Row<K>], state: &State) -> bool
 
 // Whether some cut is down.
 pub(crate) fn fails<K: SetKind>(cuts: &[Row<K>], state: &State) -> bool
-    ensures { Decides result (Fails (map (meant mem) cuts.now) (up state.now)) }
+    ensures { Decides result (Fails (map (meant K.mem) cuts.now) (up state.now)) }
 {
     for row in cuts {
         if all_down(row.set(), state) {

@@ -29,7 +29,7 @@ impl Tally {
     pub(crate) fn add<K: SetKind>(&mut self, set: &K)
         requires few { self.old.rows + 1 < 2 ^ 64 }
         requires each { (k : ℕ) → slice_index self.old.having k ≤ self.old.rows }
-        ensures { (rows : List Numbers) → Tallied rows self.old → Tallied (rows ++ mem set.now ∷ []) self.new }
+        ensures { (rows : List Numbers) → Tallied rows self.old → Tallied (rows ++ K.mem set.now ∷ []) self.new }
     {
         let mut at = 0;
         while let Some(item) = set.next(at) {
@@ -42,7 +42,7 @@ impl Tally {
 
 // Of the paths that have no item down.
 pub(crate) fn tally_paths<K: SetKind>(paths: &[Row<K>], high: &State) -> Tally
-    ensures { Tallied (left_paths (map (meant mem) paths.now) (up high.now)) result }
+    ensures { Tallied (left_paths (map (meant K.mem) paths.now) (up high.now)) result }
 {
     let mut tally = Tally::new();
     for row in paths {
@@ -55,7 +55,7 @@ pub(crate) fn tally_paths<K: SetKind>(paths: &[Row<K>], high: &State) -> Tally
 
 // Of the cuts that have no item up.
 pub(crate) fn tally_cuts<K: SetKind>(cuts: &[Row<K>], low: &State) -> Tally
-    ensures { Tallied (left_cuts (map (meant mem) cuts.now) (up low.now)) result }
+    ensures { Tallied (left_cuts (map (meant K.mem) cuts.now) (up low.now)) result }
 {
     let mut tally = Tally::new();
     for row in cuts {

@@ -1,11 +1,10 @@
 -- Laws of `bit`.
-use Rattle.std.proofs.Common.{◌≡◌, ℕ, zero, suc, ◌+◌, ◌-◌, ◌*◌, ◌/◌, ◌%◌, ◌^◌, ◌<◌, ◌≤◌, Bool, true, false, not, ◌&&◌, ◌||◌, T, eqb, ltb, leb, ◌≢◌, ◌⊎◌, sym, refl, ap, ◌∙◌, subst, ap₂, inl, inr, le_of_suc-le-suc, not-suc-le-zero, add-zero, mod-lt, mod-eq_of_lt, mul_assoc, pow-suc, div-one, add-one, one-add, arith}
+use Rattle.std.proofs.Common.{◌≡◌, ℕ, zero, suc, ◌+◌, ◌-◌, ◌*◌, ◌/◌, ◌%◌, ◌^◌, ◌<◌, Bool, true, false, not, ◌&&◌, ◌||◌, eqb, leb, ◌≢◌, sym, refl, ap, ◌∙◌, ap₂, inl, inr, le_of_suc-le-suc, not-suc-le-zero, add-zero, mod-eq_of_lt, mul_assoc, pow-suc, div-one, add-one, one-add, arith}
 use native.Mathlib.Nat.{mod-one, div-eq_of_lt, mul-mod_left}
-use lib.Bits.{bit_and, bit_or, bit_xor, and_shr, or_shr, xor_shr, and_mod, or_mod, xor_mod, and_mask, xor_add_and, xor_comm}
+use lib.Bits.{bit_and, bit_or, bit_xor, and_shr, or_shr, xor_shr, and_mod, or_mod, xor_mod, and_mask, xor_add_and}
 use lib.Count.{ones, count_trailing_zeros, under, ones_cat}
-use Rattle.sets.specs.Sets.{Numbers, one, count}
+use Rattle.sets.specs.Sets.{one, count}
 use Rattle.sets.specs.Words.{bit}
-use Rattle.sets.specs.Counts.{count_same}
 use Rattle.std.proofs.lemmas.Bool.{cases_order, cases_lt, lt-leb, le-leb, eq-eqb, ne_eqb, eqb-true}
 use Rattle.std.proofs.lemmas.Nat.{shl-shr, shr-shr, pow-add, pow_below, mod_below, mod-pow-add, pow_pos, div-add-mod', shr_below}
 

@@ -1,6 +1,6 @@
 -- The loop that puts a number in its place: the steps of its invariant.
-use Rattle.std.proofs.Common.{◌≡◌, ℕ, zero, suc, ◌+◌, ◌-◌, ◌<◌, ◌≤◌, cond, ltb, List, [], ◌∷◌, ◌++◌, length, get_or, take, drop, set, sym, refl, ap, ◌∙◌, subst, ap₂, add-zero, arith}
-use Rattle.std.proofs.lemmas.List.{append_assoc, append-nil, length-set, length-take-le, take_more, take_more_set, drop_more, drop_all, drop-drop, drop-set-lt, get_or-drop, get_or-take}
+use Rattle.std.proofs.Common.{◌≡◌, ℕ, ◌+◌, ◌<◌, ◌≤◌, ltb, List, [], ◌∷◌, ◌++◌, length, get_or, take, drop, set, sym, refl, ap, ◌∙◌, subst, add-zero, arith}
+use Rattle.std.proofs.lemmas.List.{append_assoc, length-set, length-take-le, take_more, take_more_set, drop_more, drop_all, drop-drop, drop-set-lt, get_or-drop, get_or-take}
 use Rattle.std.proofs.lemmas.Bool.{cond-true, cond-false, lt-ltb, le-ltb}
 use Rattle.sets.specs.Rising.{put}
 

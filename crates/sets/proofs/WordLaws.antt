@@ -1,15 +1,14 @@
 -- What each method of the word kind owes, over plain numbers.
-use Rattle.std.proofs.Common.{◌≡◌, ℕ, zero, suc, ◌+◌, ◌-◌, ◌*◌, ◌/◌, ◌%◌, ◌^◌, ◌<◌, ◌≤◌, Bool, true, false, not, ◌&&◌, ◌||◌, T, eqb, ltb, leb, ◌≢◌, ◌⊎◌, Decides, MatchBool, sym, refl, ap, ◌∙◌, subst, ap₂, inl, inr, lt_of_lt_of_le, mod-eq_of_lt, arith, le→leb, eqb→eq, ltb→lt, leb→le, pow_mono}
-use lib.Dec.{eqb_refl}
+use Rattle.std.proofs.Common.{◌≡◌, ℕ, ◌-◌, ◌/◌, ◌^◌, ◌<◌, ◌≤◌, Bool, true, false, not, ◌&&◌, ◌||◌, T, eqb, ltb, leb, ◌≢◌, Decides, sym, refl, ap, ◌∙◌, subst, ap₂, inl, inr, mod-eq_of_lt, arith, le→leb, ltb→lt, leb→le}
 use lib.Bits.{bit_and, bit_or, and_mask, and_le_l}
 use lib.Count.{ones, count_trailing_zeros}
 use Rattle.sets.specs.Sets.{Numbers, with, without, Within, Apart, Same, Below, count, Lowest, NoneFrom}
 use Rattle.sets.specs.Words.{bit, word_set}
 use Rattle.sets.specs.Counts.{count_same}
-use Rattle.sets.proofs.Bitwise.{bit_of_and, bit_of_or, bit_single, bit_not, bit_shr, bits_same, bit_past, trailing_low, trailing_here, trailing_some, count_bits}
-use Rattle.std.proofs.lemmas.Bool.{eq-eqb, ne_eqb, eqb-true, lt-ltb, le-ltb, cases_lt, cases_eq, cases_Bool, both_ways, false≢true}
-use Rattle.sets.specs.Truth.{holds_true, true_holds, and_T, T_and, or_T, T_or_left}
-use Rattle.std.proofs.lemmas.Nat.{pow_below, pow_pos, shr_le}
+use Rattle.sets.proofs.Bitwise.{bit_of_and, bit_of_or, bit_single, bit_not, bits_same, bit_past, trailing_low, trailing_here, trailing_some, count_bits}
+use Rattle.std.proofs.lemmas.Bool.{eq-eqb, ne_eqb, eqb-true, lt-ltb, le-ltb, cases_lt}
+use Rattle.sets.specs.Truth.{holds_true, true_holds, and_T, T_and}
+use Rattle.std.proofs.lemmas.Nat.{pow_below, pow_pos}
 
 -- below 64 a word's set is its bits
 pub word_bit : (a k : ℕ) → k < 64 → word_set a k ≡ bit a k

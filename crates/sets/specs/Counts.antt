@@ -1,8 +1,8 @@
 -- Laws of `count`.
-use Rattle.std.specs.Prelude.{◌≡◌, ℕ, zero, suc, ◌+◌, ◌<◌, ◌≤◌, Bool, true, false, not, ◌&&◌, ◌||◌, T, ◌⊎◌, ◌==◌, refl}
-use Rattle.std.proofs.Common.{sym, ap, ap₂, subst, ◌∙◌, arith, inl, inr}
-use Rattle.sets.specs.Sets.{Numbers, nothing, with, without, Within, Same, one, count}
-use Rattle.std.proofs.lemmas.Bool.{cases_eq, cases_order, eq-eqb, ne_eqb}
+use Rattle.std.specs.Prelude.{◌≡◌, ℕ, zero, suc, ◌+◌, ◌<◌, ◌≤◌, Bool, true, false, ◌||◌, T, ◌==◌, refl}
+use Rattle.std.proofs.Common.{ap, ap₂, ◌∙◌, arith, inl, inr}
+use Rattle.sets.specs.Sets.{Numbers, nothing, with, Within, one, count}
+use Rattle.std.proofs.lemmas.Bool.{cases_eq, eq-eqb, ne_eqb}
 
 -- a count looks only below its bound
 pub count_same : (s t : Numbers) (n : ℕ) → ((k : ℕ) → k < n → s k ≡ t k) → count s n ≡ count t n

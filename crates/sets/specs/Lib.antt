@@ -5,3 +5,4 @@ pub mod Listing
 pub mod Truth
 pub mod Counts
 pub mod ListLaws
+pub mod WordBelow

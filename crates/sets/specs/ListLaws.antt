@@ -1,14 +1,14 @@
 -- What each method of the list kind owes, over plain lists: the set is what the first n of xs list.
-use Rattle.std.specs.Prelude.{◌≡◌, ℕ, ◌+◌, ◌<◌, ◌≤◌, Bool, true, false, not, ◌||◌, T, ◌⊎◌, List, length, take, Decides, ◌==◌, nat_eq, slice_index, refl}
+use Rattle.std.specs.Prelude.{◌≡◌, ℕ, ◌+◌, ◌<◌, ◌≤◌, true, false, T, List, length, take, Decides, ◌==◌, nat_eq, slice_index, refl}
 use Rattle.std.proofs.Common.{sym, ap, subst, ◌∙◌, inl, inr, arith}
 use Rattle.std.proofs.Math.Dec.{eqb_refl}
 use Rattle.std.proofs.lemmas.List.{length-take, length-take-le, get_or-take}
 use Rattle.std.proofs.lemmas.Bool.{cases_eq, cases_lt, eq-eqb, ne_eqb, false≢true}
-use Rattle.sets.specs.Sets.{Numbers, nothing, with, without, Within, Apart, Same, Below, count, listed}
+use Rattle.sets.specs.Sets.{Numbers, nothing, with, without, Within, Apart, Same, count, listed}
 use Rattle.sets.specs.Rising.{rising, put, cut, Sixteen}
 use Rattle.sets.specs.Truth.{holds_true, true_holds, fails_false, T_or_left}
 use Rattle.sets.specs.Counts.{count_none, count_mono, count_with}
-use Rattle.sets.specs.Listing.{listed_bounds, count_listed, listed_at, listed_place, rising_places, listed_put, length_put, rising_put, listed_cut, rising_cut, length_cut}
+use Rattle.sets.specs.Listing.{listed_bounds, count_listed, listed_at, listed_place, rising_places, listed_put, rising_put, listed_cut, rising_cut}
 
 pub held_none : Sixteen nothing
 held_none = (λ k t. absurd t, omega (arith, count_none 256))

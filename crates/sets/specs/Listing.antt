@@ -1,10 +1,10 @@
 -- Laws of `listed` and `rising`.
-use Rattle.std.specs.Prelude.{◌≡◌, ℕ, zero, suc, ◌+◌, ◌-◌, ◌<◌, ◌≤◌, Bool, true, false, cond, not, ◌&&◌, ◌||◌, T, ◌≢◌, ◌⊎◌, List, [], ◌∷◌, length, filter, ◌==◌, nat_le, nat_lt, slice_index_or, refl}
-use Rattle.std.proofs.Common.{sym, ap, ap₂, subst, ◌∙◌, inl, inr, arith, add-one, leb→le, le→leb, ltb→lt, lt→ltb, eqb→eq}
+use Rattle.std.specs.Prelude.{◌≡◌, ℕ, zero, suc, ◌<◌, ◌≤◌, Bool, true, false, not, ◌&&◌, ◌||◌, T, List, [], ◌∷◌, length, ◌==◌, nat_le, nat_lt, slice_index_or, refl}
+use Rattle.std.proofs.Common.{sym, ap, subst, ◌∙◌, inl, inr, arith, add-one, leb→le, le→leb, ltb→lt, lt→ltb, eqb→eq}
 use Rattle.std.proofs.Math.Dec.{eqb_refl}
-use Rattle.std.proofs.lemmas.Bool.{cases_Bool, cond_both, ltb-true, ltb-false, eq-eqb}
+use Rattle.std.proofs.lemmas.Bool.{cases_Bool, cond_both, ltb-true, ltb-false}
 use Rattle.std.proofs.lemmas.Bool.Decides.{nat_tests}
-use Rattle.sets.specs.Sets.{Numbers, with, without, count, nothing, Below, listed}
+use Rattle.sets.specs.Sets.{with, without, count, listed}
 use Rattle.sets.specs.Rising.{rising, put, differs, cut}
 use Rattle.sets.specs.Truth.{and_T, T_and, or_T, T_or_left, T_or_right, fails_false}
 use Rattle.sets.specs.Counts.{count_none, count_with}

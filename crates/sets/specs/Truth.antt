@@ -1,5 +1,5 @@
 -- Tests as facts.
-use Rattle.std.specs.Prelude.{◌≡◌, Bool, true, false, not, ◌&&◌, ◌||◌, T, ◌⊎◌, refl}
+use Rattle.std.specs.Prelude.{◌≡◌, Bool, true, false, ◌&&◌, ◌||◌, T, ◌⊎◌, refl}
 use Rattle.std.proofs.Common.{sym, subst, inl, inr}
 
 pub holds_true : (b : Bool) → T b → b ≡ true

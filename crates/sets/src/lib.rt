@@ -1,4 +1,6 @@
 // Set kinds: the interface, and two kinds behind it.
+#![tactic(auto)]
+
 pub mod kind;
 pub mod list;
 pub mod word;

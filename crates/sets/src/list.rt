@@ -4,7 +4,7 @@ ghost use Rattle.sets.specs.Sets.{listed};
 ghost use Rattle.sets.specs.Rising.{rising, put, cut, Sixteen};
 ghost use Rattle.sets.specs.Listing.{listed_bounds};
 ghost use Rattle.sets.specs.ListLaws.{held_list, held_none, held_less};
-ghost use Rattle.std.proofs.Common.{rules, arith};
+ghost use Rattle.std.proofs.Common.{lit≤};
 
 use crate::kind::SetKind;
 
@@ -70,7 +70,7 @@ impl SetKind for ListSet {
 
     ghost holds = { Sixteen };
 
-    ghost small = { first_of (Prim.search rules, Prim.grind (arith, Self.row.coded.inj)) };
+    ghost small = { lit≤ tt };
 
     ghost below = { λ x k m. (listed_bounds 0 (take x.len x.numbers) k x.ok.1 m).1 };
 

@@ -2,7 +2,8 @@
 ghost use Rattle.std.specs.Prelude.{◌≡◌, ℕ, ◌^◌, ◌<◌};
 ghost use Rattle.sets.specs.Sets.{Below};
 ghost use Rattle.sets.specs.Words.{word_set};
-ghost use Rattle.std.proofs.Common.{rules};
+ghost use Rattle.sets.specs.WordBelow.{word_below};
+ghost use Rattle.std.proofs.Common.{lit≤};
 
 use crate::kind::SetKind;
 
@@ -26,15 +27,15 @@ impl SetKind for WordSet {
 
     ghost holds = { Below 64 };
 
-    ghost small = { Prim.search rules };
+    ghost small = { lit≤ tt };
 
-    ghost below = { Prim.search rules };
+    ghost below = { λ x. word_below x.bits };
 
-    ghost held = { Prim.search rules };
+    ghost held = { λ x. word_below x.bits };
 
-    ghost none = { Prim.search rules };
+    ghost none = { λ k t. absurd t };
 
-    ghost less = { Prim.search rules };
+    ghost less = { λ s t h w k m. h k (w k m) };
 
     fn ceiling() -> usize {
         64

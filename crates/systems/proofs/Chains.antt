@@ -6,7 +6,7 @@ use Rattle.std.proofs.lemmas.Bool.Decides.{Decides-and, Decides-or, Decides-like
 use Rattle.sets.specs.Sets.{Numbers, Within, Below, one, count}
 use Rattle.sets.specs.Truth.{holds_true, true_holds, or_T, T_or_left, T_or_right}
 use Rattle.sets.specs.Counts.{one_mono, count_mono}
-use Rattle.systems.specs.Lines.{Open, Joins, Walk, Connects, ChainsAreWalks, no_line, is_open, leads, crossed, reached, connects}
+use Rattle.systems.specs.Lines.{Open, Joins, Walk, ChainsAreWalks, no_line, is_open, leads, crossed, reached, connects}
 use Rattle.systems.specs.Lines.Walk.{start, along}
 use Rattle.systems.specs.declared.line.Line.{Line}
 

@@ -2,7 +2,7 @@
 --
 -- It works in a state exactly when the system does not work in the state with every item the other way. So a set of items is a
 -- minimal path of the dual exactly when it is a minimal cut.
-use Rattle.std.specs.Prelude.{ℕ, not, ◌&&◌, T, nat_lt}
+use Rattle.std.specs.Prelude.{ℕ, not, nat_lt}
 use Rattle.std.proofs.Common.{T_not, ltb→lt}
 use Rattle.std.proofs.Math.Dec.{not_T}
 use Rattle.sets.specs.Sets.{Numbers, Within, Below}

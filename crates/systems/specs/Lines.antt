@@ -5,7 +5,7 @@
 --   Connects  a chain leads from node 0 to the last node, and the drawing keeps its limits
 --   reached k the nodes to which a chain of at most k open lines leads from node 0
 --   connects  the same as Connects, as a test
-use Rattle.std.specs.Prelude.{◌≡◌, ℕ, zero, suc, ◌-◌, ◌<◌, ◌≤◌, Bool, true, false, ◌&&◌, ◌||◌, T, ◌⊎◌, List, [], ◌∷◌, length, Decides, ◌==◌, nat_le, nat_lt, slice_index_or}
+use Rattle.std.specs.Prelude.{◌≡◌, ℕ, zero, suc, ◌-◌, ◌<◌, ◌≤◌, Bool, false, ◌&&◌, ◌||◌, T, ◌⊎◌, List, [], ◌∷◌, length, Decides, ◌==◌, nat_le, nat_lt, slice_index_or}
 use Rattle.std.proofs.Common.{inl, inr}
 use Rattle.sets.specs.Sets.{Numbers, Within}
 use Rattle.sets.specs.Truth.{and_T, T_and, or_T, T_or_left, T_or_right}

@@ -3,7 +3,7 @@
 --   RowUp     some row that names no item out of range is up, of at most 4,096 rows
 --   row_up    the row names no item out of range, and all its items are up, as a test
 --   rows_work the same as RowUp, as a test
-use Rattle.std.specs.Prelude.{ℕ, zero, suc, ◌<◌, ◌≤◌, Bool, true, false, not, ◌&&◌, ◌||◌, T, List, [], ◌∷◌, length, nat_le, nat_lt, slice_index_or}
+use Rattle.std.specs.Prelude.{ℕ, zero, suc, ◌<◌, ◌≤◌, Bool, false, not, ◌&&◌, ◌||◌, T, List, [], ◌∷◌, length, nat_le, nat_lt, slice_index_or}
 use Rattle.std.proofs.Common.{inl, inr}
 use Rattle.sets.specs.Sets.{Numbers, nothing, Within, Below, within_below}
 use Rattle.sets.specs.Truth.{and_T, T_and, or_T, T_or_left, T_or_right}

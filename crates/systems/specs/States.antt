@@ -1,5 +1,5 @@
 -- States as sets of items. Assumes nothing.
-use Rattle.std.specs.Prelude.{ℕ, Bool, false, cond, not, ◌&&◌, ◌==◌, nat_lt, slice_index_or}
+use Rattle.std.specs.Prelude.{ℕ, Bool, false, cond, ◌&&◌, ◌==◌, nat_lt, slice_index_or}
 use Rattle.sets.specs.Sets.{Numbers}
 use Rattle.systems.specs.declared.state.State.{State}
 

@@ -1,4 +1,6 @@
 // States of a system's items, and what the tables and drawings of a system mean.
+#![tactic(auto)]
+
 pub mod drawing;
 pub mod examples;
 pub mod line;

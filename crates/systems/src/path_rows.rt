@@ -18,7 +18,7 @@ pub struct RowDrawing<'a, K: SetKind> {
 // Whether one of the rows is up.
 fn some_up<K: SetKind>(rows: &[K], state: &State) -> bool
     requires { length rows.now ≤ 4096 }
-    ensures { Decides result (RowUp state.now.count (map mem rows.now) (up state.now)) }
+    ensures { Decides result (RowUp state.now.count (map K.mem rows.now) (up state.now)) }
 {
     for row in rows {
         if all_up(row, state) {
@@ -29,7 +29,7 @@ fn some_up<K: SetKind>(rows: &[K], state: &State) -> bool
 }
 
 impl<'a, K: SetKind> Drawing for RowDrawing<'a, K> {
-    ghost means = { λ d. row_structure d.items (map K.SetKind.mem d.rows.now) };
+    ghost means = { λ d. row_structure d.items (map K.mem d.rows.now) };
 
     fn item_count(&self) -> usize {
         self.items

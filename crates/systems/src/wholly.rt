@@ -8,7 +8,7 @@ use sets::SetKind;
 
 // Whether all items of the set are up.
 pub fn all_up<K: SetKind>(set: &K, state: &State) -> bool
-    ensures { Decides result (Within (mem set.now) (up state.now)) }
+    ensures { Decides result (Within (K.mem set.now) (up state.now)) }
 {
     let mut at = 0;
     while let Some(item) = set.next(at) {
@@ -22,7 +22,7 @@ pub fn all_up<K: SetKind>(set: &K, state: &State) -> bool
 
 // Whether all items of the set are down.
 pub fn all_down<K: SetKind>(set: &K, state: &State) -> bool
-    ensures { Decides result (Apart (mem set.now) (up state.now)) }
+    ensures { Decides result (Apart (K.mem set.now) (up state.now)) }
 {
     let mut at = 0;
     while let Some(item) = set.next(at) {
@@ -37,7 +37,7 @@ pub fn all_down<K: SetKind>(set: &K, state: &State) -> bool
 // The state of n items in which just those of the set are up.
 pub fn alone_up<K: SetKind>(n: usize, set: &K) -> State
     ensures count { n ≤ 256 → result.count ≡ n }
-    ensures marks { (k : ℕ) → k < result.count → up result k ≡ mem set.now k }
+    ensures marks { (k : ℕ) → k < result.count → up result k ≡ K.mem set.now k }
 {
     let mut state = State::new(n);
     for item in 0..state.count() {

@@ -3,8 +3,7 @@ use Rattle.std.proofs.Common.{◌≡◌, ℕ, suc, ◌+◌, ◌-◌, ◌<◌, �
 use mathlib.Core.Path.{fun_ext}
 use Rattle.std.proofs.lemmas.List.{get_or-set_same, get_or-set_other, length-set, same_lists, get_or-take, length-take-le, map-append, take-map, drop-map}
 use Rattle.std.proofs.lemmas.List.Edits.{length-remove, get_or-remove_below, get_or-remove_above}
-use Rattle.std.proofs.lemmas.List.Filters.{SwapPlaces}
-use Rattle.std.specs.List.{remove}
+use Rattle.std.specs.List.{remove, SwappedAt}
 use Rattle.std.proofs.lemmas.Bool.{cases_eq, cases_lt}
 use Rattle.sets.specs.Sets.{Numbers, nothing, Same}
 use Rattle.tables.specs.Memory.{Standing, Beyond}
@@ -20,7 +19,7 @@ module _ {X : Type 0} where
   pub shifted_none : (xs : List X) (row : ℕ) → Shifted xs xs row (row + 1)
   shifted_none xs row = record { front = λ k d a. refl; moved = λ k d a b. absurd (omega arith); rest = λ k d a. refl; long = refl }
 
-  pub shifted_more : (xs ys zs : List X) (row i : ℕ) → row < i → Shifted xs ys row i → SwapPlaces ys zs (i - 1) i → length zs ≡ length ys → Shifted xs zs row (i + 1)
+  pub shifted_more : (xs ys zs : List X) (row i : ℕ) → row < i → Shifted xs ys row i → SwappedAt ys zs (i - 1) i → length zs ≡ length ys → Shifted xs zs row (i + 1)
   shifted_more xs ys zs row i above h swap long = record {
     front = λ k d a. swap.2 k d (omega arith) (omega arith) ∙ h.front k d a;
     moved = λ k d a b. ⊎_elim

@@ -1,10 +1,10 @@
 -- The loop that makes a row from a list of item numbers.
-use Rattle.std.proofs.Common.{◌≡◌, ℕ, ◌+◌, ◌<◌, ◌≤◌, Bool, true, false, ◌||◌, T, eqb, List, [], ◌∷◌, ◌++◌, length, get_or, take, sym, refl, ap, ◌∙◌, subst, inl, inr, arith, below_more}
+use Rattle.std.proofs.Common.{◌≡◌, ℕ, ◌+◌, ◌<◌, ◌≤◌, Bool, true, false, ◌||◌, eqb, List, [], ◌∷◌, ◌++◌, length, get_or, take, sym, refl, ap, ◌∙◌, subst, arith, below_more}
 use mathlib.Core.Path.{fun_ext}
 use Rattle.std.proofs.lemmas.List.{take_more, take_all}
 use Rattle.sets.specs.Sets.{Numbers, nothing, with, Same, Below, listed}
 use Rattle.sets.specs.Listing.{listed_place}
-use Rattle.tables.specs.Calls.{Pass, Passes, ItemRefused, repeated, cannot_hold}
+use Rattle.tables.specs.Calls.{Pass, ItemRefused, repeated, cannot_hold}
 
 -- the first i items pass, and s is their set
 pub record Gathered (n : ℕ) (holds : Numbers → Type 0) (items : List ℕ) (i : ℕ) (s : Numbers) : Type 0 where

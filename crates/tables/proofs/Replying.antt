@@ -4,7 +4,7 @@ use Rattle.std.proofs.lemmas.List.{take_more_set, map_push, get_or-set_other}
 use Rattle.sets.specs.Sets.{Numbers, nothing, Below, listed}
 use Rattle.tables.specs.Memory.{Standing}
 use Rattle.tables.specs.Rows.{ContainsNone, LowestContained, staying, after_put}
-use Rattle.tables.specs.Refusals.{Reply, answered, refused}
+use Rattle.tables.specs.Refusals.{answered, refused}
 use Rattle.tables.specs.Calls.{Pass, Puts, put_contains, put_full, put_done, Strikes, strike_none, Shows, show_none, show_done}
 use Rattle.tables.proofs.Sifting.{kept_whole}
 use Rattle.tables.proofs.Reading.{standing_many, row_at}

@@ -7,7 +7,7 @@
 --   Puts      of `put`
 --   Strikes   of `strike`
 --   Shows     of the call that shows a row
-use Rattle.std.specs.Prelude.{◌≡◌, ℕ, ◌+◌, ◌-◌, ◌<◌, ◌≤◌, Bool, true, false, ◌⊎◌, List, [], ◌∷◌, length, get_or, take, slice_index, slice_index_or}
+use Rattle.std.specs.Prelude.{◌≡◌, ℕ, ◌+◌, ◌-◌, ◌<◌, ◌≤◌, true, false, ◌⊎◌, List, [], ◌∷◌, length, get_or, take, slice_index, slice_index_or}
 use Rattle.std.specs.List.{remove}
 use Rattle.sets.specs.Sets.{Numbers, nothing, listed}
 use Rattle.tables.specs.Refusals.{Reply, answered, refused}

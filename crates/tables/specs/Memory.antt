@@ -4,7 +4,7 @@
 --   Standing     the first places mean the rows, in their order, and each place behind them, up to the capacity, the empty set
 --   Beyond       the places from `from` on are as they were
 --   Emptied      the places from `from` up to `to` mean the empty set, and all others are as they were
-use Rattle.std.specs.Prelude.{◌≡◌, ℕ, ◌<◌, ◌≤◌, List, map, length, take, slice_index_or}
+use Rattle.std.specs.Prelude.{◌≡◌, ℕ, ◌<◌, ◌≤◌, List, map, take, slice_index_or}
 use Rattle.sets.specs.Sets.{Numbers, nothing}
 use Rattle.tables.specs.declared.row.Row.{Row}
 

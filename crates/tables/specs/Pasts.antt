@@ -10,9 +10,9 @@
 --   Improved   what a completion that stopped part way leaves of a table: each row minimal, each once, each
 --              earlier row with a row within it
 --   Past       the relation itself: the rows of the path table and of the cut table
-use Rattle.std.specs.Prelude.{◌≡◌, ℕ, ◌<◌, ◌≤◌, List, [], length, get_or}
+use Rattle.std.specs.Prelude.{◌≡◌, ℕ, ◌<◌, ◌≤◌, List, [], length}
 use Rattle.std.specs.List.{remove}
-use Rattle.sets.specs.Sets.{Numbers, nothing, Within, Below}
+use Rattle.sets.specs.Sets.{Numbers, Below}
 use Rattle.systems.specs.Systems.{Works, Structure, MinimalPath, MinimalCut, EachRow, Once, Lists}
 use Rattle.tables.specs.Rows.{ContainsNone, staying, after_put, Sound}
 use Rattle.tables.specs.Refusals.{Reply}

@@ -7,36 +7,37 @@
 --   Unchanged  so are all places, and the number of rows
 use Rattle.std.specs.Prelude.{◌≡◌, ℕ, min, List, [], length}
 use Rattle.sets.specs.Sets.{Numbers}
+use Rattle.sets.specs.declared.kind.SetKind.{Ghosts}
 use Rattle.tables.specs.Memory.{meant, Standing, Beyond}
 use Rattle.tables.specs.declared.row.Row.{Row}
 use Rattle.tables.specs.declared.table.Table.{Table}
 
-abbrev pub places : {X : Type 0} → Table X → List (Row X)
+abbrev pub places : {X : Type 0} {G : Ghosts X} → Table X G → List (Row X)
 places t = t.memory.places.now
 
-pub record Holds {X : Type 0} (mem : X → Numbers) (t : Table X) (n : ℕ) (rows : List Numbers) : Type 0 where
+pub record Holds {X : Type 0} {G : Ghosts X} (mem : X → Numbers) (t : Table X G) (n : ℕ) (rows : List Numbers) : Type 0 where
   pub items : t.items ≡ n
   pub standing : Standing (meant mem) (places t) t.capacity t.count rows
 
-pub record Kept {X : Type 0} (before after : Table X) : Type 0 where
+pub record Kept {X : Type 0} {G : Ghosts X} (before after : Table X G) : Type 0 where
   pub items : after.items ≡ before.items
   pub capacity : after.capacity ≡ before.capacity
   pub length : length (places after) ≡ length (places before)
   pub beyond : Beyond before.capacity (places before) (places after)
 
-pub record Unchanged {X : Type 0} (before after : Table X) : Type 0 where
+pub record Unchanged {X : Type 0} {G : Ghosts X} (before after : Table X G) : Type 0 where
   pub memory : places after ≡ places before
   pub count : after.count ≡ before.count
 
 -- a table opened with a permitted item count over this memory
-pub record Opened {X : Type 0} (mem : X → Numbers) (n : ℕ) (memory : List (Row X)) (t : Table X) : Type 0 where
+pub record Opened {X : Type 0} {G : Ghosts X} (mem : X → Numbers) (n : ℕ) (memory : List (Row X)) (t : Table X G) : Type 0 where
   pub capacity : t.capacity ≡ min 4096 (length memory)
   pub empty : Holds mem t n []
   pub length : length (places t) ≡ length memory
   pub beyond : Beyond t.capacity memory (places t)
 
 -- a table opened with a count that is not permitted
-pub record OpenedWrong {X : Type 0} (mem : X → Numbers) (memory : List (Row X)) (t : Table X) : Type 0 where
+pub record OpenedWrong {X : Type 0} {G : Ghosts X} (mem : X → Numbers) (memory : List (Row X)) (t : Table X G) : Type 0 where
   pub capacity : t.capacity ≡ 0
   pub empty : Holds mem t 0 []
   pub memory_same : places t ≡ memory

@@ -9,7 +9,7 @@ use sets::SetKind;
 
 // The row with these items, of a table of n items, or the fault of the first item that does not pass.
 pub(crate) fn gather<K: SetKind>(items: &[usize], n: usize) -> Result<K, TableFault>
-    ensures { MatchResult result (λ x. Pass n holds items.now (length items.now) × (mem x ≡ listed items.now)) (λ f. ItemRefused n holds items.now (table_refusal f).number (table_refusal f).values) }
+    ensures { MatchResult result (λ x. Pass n K.holds items.now (length items.now) × (K.mem x ≡ listed items.now)) (λ f. ItemRefused n K.holds items.now (table_refusal f).number (table_refusal f).values) }
 {
     let mut row = K::empty();
     for (i, item) in items.iter().enumerate() {

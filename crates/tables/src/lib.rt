@@ -1,4 +1,6 @@
 // Path and cut tables over row memory that the caller lends.
+#![tactic(auto)]
+
 pub mod fault;
 pub mod gather;
 pub mod memory;

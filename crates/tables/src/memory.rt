@@ -18,7 +18,7 @@ impl<'a, K: SetKind> Memory<'a, K> {
     pub(crate) fn clear(&mut self, from: usize, to: usize)
         requires { (from ≤ to) × (to ≤ length self.old.places.now) }
         ensures long { length self.new.places.now ≡ length self.old.places.now }
-        ensures emptied { Emptied (meant mem) self.old.places.now self.new.places.now from to }
+        ensures emptied { Emptied (meant K.mem) self.old.places.now self.new.places.now from to }
     {
         for i in from..to {
             self.places[i] = Row::empty();
@@ -30,7 +30,7 @@ impl<'a, K: SetKind> Memory<'a, K> {
         requires { (row < count) × (count ≤ length self.old.places.now) }
         ensures long { length self.new.places.now ≡ length self.old.places.now }
         ensures beyond { Beyond count self.old.places.now self.new.places.now }
-        ensures rows { (capacity : ℕ) (ps : List Numbers) → Standing (meant mem) self.old.places.now capacity count ps → Standing (meant mem) self.new.places.now capacity (count - 1) (remove ps row) }
+        ensures rows { (capacity : ℕ) (ps : List Numbers) → Standing (meant K.mem) self.old.places.now capacity count ps → Standing (meant K.mem) self.new.places.now capacity (count - 1) (remove ps row) }
     {
         for i in row + 1..count {
             self.places.swap(i - 1, i);
@@ -41,7 +41,7 @@ impl<'a, K: SetKind> Memory<'a, K> {
     // The lowest of the first `count` rows that `row` contains.
     pub(crate) fn lowest_contained(&self, count: usize, row: &K) -> Option<usize>
         requires { count ≤ length self.now.places.now }
-        ensures { MatchOption result (ContainsNone (map (meant mem) (take count self.now.places.now)) (mem row.now)) (LowestContained (map (meant mem) (take count self.now.places.now)) (mem row.now)) }
+        ensures { MatchOption result (ContainsNone (map (meant K.mem) (take count self.now.places.now)) (K.mem row.now)) (LowestContained (map (meant K.mem) (take count self.now.places.now)) (K.mem row.now)) }
     {
         let places = &*self.places;
         for i in 0..count {
@@ -59,7 +59,7 @@ impl<'a, K: SetKind> Memory<'a, K> {
         ensures fewer { result ≤ count }
         ensures whole { result ≡ count → self.new.places.now ≡ self.old.places.now }
         ensures beyond { Beyond count self.old.places.now self.new.places.now }
-        ensures rows { (n capacity : ℕ) (ps : List Numbers) → Below n (mem row.now) → Standing (meant mem) self.old.places.now capacity count ps → Standing (meant mem) self.new.places.now capacity result (staying n ps (mem row.now)) }
+        ensures rows { (n capacity : ℕ) (ps : List Numbers) → Below n (K.mem row.now) → Standing (meant K.mem) self.old.places.now capacity count ps → Standing (meant K.mem) self.new.places.now capacity result (staying n ps (K.mem row.now)) }
     {
         let mut stay = 0;
         for i in 0..count {

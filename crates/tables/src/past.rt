@@ -6,8 +6,8 @@ use sets::SetKind;
 // `sound`: items below the count, each row can be held, no row contains another, at most capacity rows.
 // `goes_on`: the rows after a put or a strike have a past again.
 pub fn pasts<K: SetKind>() -> u8
-    ensures sound { PastsAreSound K.SetKind.holds }
-    ensures goes_on { CallsGoOn K.SetKind.holds }
+    ensures sound { PastsAreSound K.holds }
+    ensures goes_on { CallsGoOn K.holds }
 {
     0
 }

@@ -5,7 +5,7 @@ use sets::SetKind;
 
 // Of each call the definitions allow one reply, and one list of rows after it.
 pub fn replies<K: SetKind>() -> u8
-    ensures { OneReply K.SetKind.holds }
+    ensures { OneReply K.holds }
 {
     0
 }

@@ -12,7 +12,7 @@ pub struct Row<K: SetKind> {
 impl<K: SetKind> Row<K> {
     // A free place: the empty set.
     pub fn empty() -> Row<K>
-        ensures { Same (mem result.set) nothing }
+        ensures { Same (K.mem result.set) nothing }
     {
         Row { set: K::empty() }
     }

@@ -1,4 +1,6 @@
 // Tests of tables on examples.
+#![tactic(auto)]
+
 
 #[cfg(test)]
 mod tests {

@@ -1,4 +1,6 @@
 // Two figures, from empty tables to full ones: each call is printed with its answer.
+#![tactic(auto)]
+
 mod bridge;
 mod cooling;
 mod show;

@@ -36,8 +36,8 @@ impl Search {
     // The next state that the tables miss, if there is one more.
     pub fn next_missed<K: SetKind>(&mut self, paths: &[Row<K>], cuts: &[Row<K>]) -> Option<State>
         ensures stands { (n : ℕ) → Stands n self.old → Stands n self.new }
-        ensures behind { (n : ℕ) → Stands n self.old → Behind n (map (meant mem) paths.now) (map (meant mem) cuts.now) self.old → Behind n (map (meant mem) paths.now) (map (meant mem) cuts.now) self.new }
-        ensures found { (n : ℕ) → Stands n self.old → MatchOption result (Behind n (map (meant mem) paths.now) (map (meant mem) cuts.now) self.old → AllCovered n (map (meant mem) paths.now) (map (meant mem) cuts.now)) (MissedState n (map (meant mem) paths.now) (map (meant mem) cuts.now)) }
+        ensures behind { (n : ℕ) → Stands n self.old → Behind n (map (meant K.mem) paths.now) (map (meant K.mem) cuts.now) self.old → Behind n (map (meant K.mem) paths.now) (map (meant K.mem) cuts.now) self.new }
+        ensures found { (n : ℕ) → Stands n self.old → MatchOption result (Behind n (map (meant K.mem) paths.now) (map (meant K.mem) cuts.now) self.old → AllCovered n (map (meant K.mem) paths.now) (map (meant K.mem) cuts.now)) (MissedState n (map (meant K.mem) paths.now) (map (meant K.mem) cuts.now)) }
     {
         'halves: loop {
             if self.is_closed(paths, cuts) {
@@ -66,7 +66,7 @@ impl Search {
 
     // Whether the half being tried is closed: a path is wholly up, or a cut wholly down.
     pub(crate) fn is_closed<K: SetKind>(&self, paths: &[Row<K>], cuts: &[Row<K>]) -> bool
-        ensures { Decides result (Works (map (meant mem) paths.now) (up self.now.low) ⊎ Fails (map (meant mem) cuts.now) (up self.now.high)) }
+        ensures { Decides result (Works (map (meant K.mem) paths.now) (up self.now.low) ⊎ Fails (map (meant K.mem) cuts.now) (up self.now.high)) }
     {
         works(paths, &self.low) || fails(cuts, &self.high)
     }

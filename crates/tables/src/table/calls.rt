@@ -18,7 +18,7 @@ pub const MOST_ROWS: usize = 4096;
 impl<'a, K: SetKind> Table<'a, K> {
     // Whether tables of this kind can have this many items: from 1 to the kind's ceiling.
     pub fn judge(items: usize) -> Result<(), TableFault>
-        ensures { Judges top items (table_reply result) }
+        ensures { Judges K.top items (table_reply result) }
     {
         if items == 0 || items > K::ceiling() {
             return Err(TableFault::ItemCount(items));
@@ -28,8 +28,8 @@ impl<'a, K: SetKind> Table<'a, K> {
 
     // A table with no row, over the memory. With a count that is not permitted it has no item and no place.
     pub fn open(memory: &'a mut [Row<K>], items: usize) -> Table<'a, K>
-        ensures permitted { 1 ≤ items → items ≤ top → Opened mem items memory.old result }
-        ensures wrong { (items ≡ 0) ⊎ (top < items) → OpenedWrong mem memory.old result }
+        ensures permitted { 1 ≤ items → items ≤ K.top → Opened K.mem items memory.old result }
+        ensures wrong { (items ≡ 0) ⊎ (K.top < items) → OpenedWrong K.mem memory.old result }
     {
         let len = memory.len();
         let mut memory = Memory { places: memory };
@@ -55,7 +55,7 @@ impl<'a, K: SetKind> Table<'a, K> {
     pub fn put(&mut self, items: &[usize]) -> Result<usize, TableFault>
         ensures kept { Kept self.old self.new }
         ensures refused { OnErr result (Unchanged self.old self.new) }
-        ensures puts { (n : ℕ) (ps : List Numbers) → Holds mem self.old n ps → (qs : List Numbers) × Puts n self.old.capacity holds ps items.now (table_reply result) qs × Holds mem self.new n qs }
+        ensures puts { (n : ℕ) (ps : List Numbers) → Holds K.mem self.old n ps → (qs : List Numbers) × Puts n self.old.capacity K.holds ps items.now (table_reply result) qs × Holds K.mem self.new n qs }
     {
         let n = self.items;
         if n == 0 {
@@ -79,7 +79,7 @@ impl<'a, K: SetKind> Table<'a, K> {
     pub fn strike(&mut self, row: usize) -> Result<(), TableFault>
         ensures kept { Kept self.old self.new }
         ensures refused { OnErr result (Unchanged self.old self.new) }
-        ensures strikes { (n : ℕ) (ps : List Numbers) → Holds mem self.old n ps → (qs : List Numbers) × Strikes n ps row (table_reply result) qs × Holds mem self.new n qs }
+        ensures strikes { (n : ℕ) (ps : List Numbers) → Holds K.mem self.old n ps → (qs : List Numbers) × Strikes n ps row (table_reply result) qs × Holds K.mem self.new n qs }
     {
         if self.items == 0 {
             return Err(TableFault::ItemCount(self.items));

@@ -26,14 +26,14 @@ impl<'a, K: SetKind> Table<'a, K> {
 
     pub fn row_count(&self) -> usize
         ensures count { result ≡ self.now.count }
-        ensures rows { (n : ℕ) (ps : List Numbers) → Holds mem self.now n ps → result ≡ length ps }
+        ensures rows { (n : ℕ) (ps : List Numbers) → Holds K.mem self.now n ps → result ≡ length ps }
     {
         self.count
     }
 
     // The set of the row with this number.
     pub fn row(&self, row: usize) -> Result<&K, TableFault>
-        ensures { (n : ℕ) (ps : List Numbers) → Holds mem self.now n ps → Shows n ps row (shown mem result) }
+        ensures { (n : ℕ) (ps : List Numbers) → Holds K.mem self.now n ps → Shows n ps row (shown K.mem result) }
     {
         if self.items == 0 {
             return Err(TableFault::ItemCount(self.items));
@@ -47,7 +47,7 @@ impl<'a, K: SetKind> Table<'a, K> {
     // The rows, in their order.
     pub fn rows(&self) -> &[Row<K>]
         ensures places { result.now ≡ take self.now.count (places self.now) }
-        ensures rows { (n : ℕ) (ps : List Numbers) → Holds mem self.now n ps → map (meant mem) result.now ≡ ps }
+        ensures rows { (n : ℕ) (ps : List Numbers) → Holds K.mem self.now n ps → map (meant K.mem) result.now ≡ ps }
     {
         self.memory.front(self.count)
     }

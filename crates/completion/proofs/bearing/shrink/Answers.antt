@@ -2,7 +2,7 @@ use Rattle.std.proofs.Common.{◌+◌, ◌<◌, sym, subst, arith}
 use Rattle.systems.specs.declared.state.State.{State}
 use Rattle.completion.proofs.Shrinking.{Shrinking, shrink_none, shrink_skip, shrink_drop, shrink_keep, shrink_all}
 use Rattle.completion.proofs.bearing.shrink.Goals as goal
-use Rattle.completion.proofs.bearing.shrink.Goals.{then-is-up+then-not-bears, then-is-up+else-not-bears, else-is-up}
+use Rattle.completion.proofs.bearing.shrink.Goals.{then-is_up+then-not-bears, then-is_up+else-not-bears, else-is_up}
 
 pub loop-item-init : goal.loop-item-init
 loop-item-init g c = shrink_none (g.D.Drawing.means c.args.drawing.now) c.args.side c.args.set.now
@@ -17,16 +17,16 @@ loop-item-preserved g c =
     let h = c.loop-item.invariant in
     let lt : k < s.count = omega (arith, h.count) in
     let P : State → Type 0 = λ x. Shrinking φ side first x (k + 1) in
-    elim c.if-is-up.branch [
-      | then-is-up+then-not-bears w ↦
+    elim c.if-is_up.branch [
+      | then-is_up+then-not-bears w ↦
           subst P (sym w.least-is)
           (shrink_keep φ side first s k w.set.new.self lt w.set.ensures.count w.set.ensures.marks
           w.set-then-not-bears.new.self w.set-then-not-bears.ensures.count w.set-then-not-bears.ensures.marks
-          (sym w.if-is-up.ensures) w.if-not-bears.ensures h)
-      | then-is-up+else-not-bears w ↦
+          (sym w.if-is_up.ensures) w.if-not-bears.ensures h)
+      | then-is_up+else-not-bears w ↦
           subst P (sym w.least-is)
           (shrink_drop φ side first s k w.set.new.self lt w.set.ensures.count w.set.ensures.marks w.if-not-bears.ensures h)
-      | else-is-up w ↦ subst P (sym w.least-is) (shrink_skip φ side first s k (sym w.if-is-up.ensures) h)
+      | else-is_up w ↦ subst P (sym w.least-is) (shrink_skip φ side first s k (sym w.if-is_up.ensures) h)
     ]
 
 pub returns : goal.returns

@@ -11,13 +11,13 @@ use Rattle.completion.proofs.Endings.{closed_completed, differs_completed, path_
 use Rattle.completion.proofs.Filled.{kept_same, kept_trans}
 use Rattle.completion.proofs.completing.complete.Goals as goal
 
-pub returns-in-err-n : goal.returns-in-err-n
-returns-in-err-n g c =
-    let p = err_from_is_err_and c.from-residual.result c.from-residual.ensures.1 in
-    let checks = c.in-err-n.ensures.checks in
+pub returns-in_err-n : goal.returns-in_err-n
+returns-in_err-n g c =
+    let p = err_from_is_err_and c.from_residual.result c.from_residual.ensures.1 in
+    let checks = c.in_err-n.ensures.checks in
     rw (p.1, p.2) (record {
-      paths-kept = kept_same;
-      cuts-kept = kept_same;
+      paths_kept = kept_same;
+      cuts_kept = kept_same;
       counts = counts_refused _ _ _ _ _ checks;
       untouched = (record { memory = refl; count = refl }, record { memory = refl; count = refl });
       completes = λ n ps cs past hp hc.
@@ -27,78 +27,78 @@ returns-in-err-n g c =
 
 pub returns-then-m-n : goal.returns-then-m-n
 returns-then-m-n g c =
-    let pass = c.in-ok-n.ensures in
+    let pass = c.in_ok-n.ensures in
     record {
-      paths-kept = kept_same;
-      cuts-kept = kept_same;
-      counts = counts_other _ _ _ _ _ pass.checks pass.count.0 c.item-count-m.ensures c.if-m-n.true;
+      paths_kept = kept_same;
+      cuts_kept = kept_same;
+      counts = counts_other _ _ _ _ _ pass.checks pass.count.0 c.item_count-m.ensures c.if-m-n.true;
       untouched = (record { memory = refl; count = refl }, record { memory = refl; count = refl });
       completes = λ n ps cs past hp hc.
           let φ = g.D.Drawing.means c.args.drawing.now in
-          let same : c.in-ok-n.n ≡ n = pass.count.0 ∙ hp.items in (
+          let same : c.in_ok-n.n ≡ n = pass.count.0 ∙ hp.items in (
             ps,
             cs,
             hp,
             hc,
-            rw (same, c.item-count-m.ensures)
-                (differs_completed n _ _ _ φ ps cs past (λ e. c.if-m-n.true (c.item-count-m.ensures ∙ e ∙ sym same))),
+            rw (same, c.item_count-m.ensures)
+                (differs_completed n _ _ _ φ ps cs past (λ e. c.if-m-n.true (c.item_count-m.ensures ∙ e ∙ sym same))),
           );
     }
 
 pub returns-in-Some : goal.returns-in-Some
 returns-in-Some g c =
-    let pass = c.in-ok-n.ensures in
+    let pass = c.in_ok-n.ensures in
     record {
-      paths-kept = kept_same;
-      cuts-kept = kept_same;
-      counts = counts_same _ _ _ _ _ _ pass.checks pass.count.0 c.item-count-m.ensures c.if-m-n.false;
+      paths_kept = kept_same;
+      cuts_kept = kept_same;
+      counts = counts_same _ _ _ _ _ _ pass.checks pass.count.0 c.item_count-m.ensures c.if-m-n.false;
       untouched = (record { memory = refl; count = refl }, record { memory = refl; count = refl });
       completes = λ n ps cs past hp hc.
           let φ = g.D.Drawing.means c.args.drawing.now in
-          let e : φ.items ≡ n = sym c.item-count-m.ensures ∙ c.if-m-n.false ∙ pass.count.0 ∙ hp.items in
+          let e : φ.items ≡ n = sym c.item_count-m.ensures ∙ c.if-m-n.false ∙ pass.count.0 ∙ hp.items in
           let sound = past_sound _ n _ _ ps cs past in
           (ps, cs, hp, hc, path_unborne_completed n _ _ _ φ ps cs past e c.in-Some.row (first_not_path φ ps _ (c.in-Some.ensures n ps hp sound.0 e)));
     }
 
-pub returns-in-Some-first-unborne : goal.returns-in-Some-first-unborne
-returns-in-Some-first-unborne g c =
-    let pass = c.in-ok-n.ensures in
+pub returns-in-Some-first_unborne : goal.returns-in-Some-first_unborne
+returns-in-Some-first_unborne g c =
+    let pass = c.in_ok-n.ensures in
     record {
-      paths-kept = kept_same;
-      cuts-kept = kept_same;
-      counts = counts_same _ _ _ _ _ _ pass.checks pass.count.0 c.item-count-m.ensures c.if-m-n.false;
+      paths_kept = kept_same;
+      cuts_kept = kept_same;
+      counts = counts_same _ _ _ _ _ _ pass.checks pass.count.0 c.item_count-m.ensures c.if-m-n.false;
       untouched = (record { memory = refl; count = refl }, record { memory = refl; count = refl });
       completes = λ n ps cs past hp hc.
           let φ = g.D.Drawing.means c.args.drawing.now in
-          let e : φ.items ≡ n = sym c.item-count-m.ensures ∙ c.if-m-n.false ∙ pass.count.0 ∙ hp.items in
+          let e : φ.items ≡ n = sym c.item_count-m.ensures ∙ c.if-m-n.false ∙ pass.count.0 ∙ hp.items in
           let sound = past_sound _ n _ _ ps cs past in (
             ps,
             cs,
             hp,
             hc,
-            cut_unborne_completed n _ _ _ φ ps cs past e c.in-Some-first-unborne.row (c.in-default.ensures n ps hp sound.0 e)
-                (first_not_cut φ cs _ (c.in-Some-first-unborne.ensures n cs hc sound.1 e)),
+            cut_unborne_completed n _ _ _ φ ps cs past e c.in-Some-first_unborne.row (c.in_default.ensures n ps hp sound.0 e)
+                (first_not_cut φ cs _ (c.in-Some-first_unborne.ensures n cs hc sound.1 e)),
           );
     }
 
 pub returns : goal.returns
 returns g c =
-    let pass = c.in-ok-n.ensures in
+    let pass = c.in_ok-n.ensures in
     record {
-      paths-kept = kept_trans c.tighten.ensures.kept c.fill.ensures.paths-kept;
-      cuts-kept = kept_trans c.tighten-2.ensures.kept c.fill.ensures.cuts-kept;
-      counts = counts_same _ _ _ _ _ _ pass.checks pass.count.0 c.item-count-m.ensures c.if-m-n.false;
+      paths_kept = kept_trans c.tighten.ensures.kept c.fill.ensures.paths_kept;
+      cuts_kept = kept_trans c.tighten-2.ensures.kept c.fill.ensures.cuts_kept;
+      counts = counts_same _ _ _ _ _ _ pass.checks pass.count.0 c.item_count-m.ensures c.if-m-n.false;
       untouched = only_untouched c.fill.result _ c.fill.ensures.only;
       completes = λ n ps cs past hp hc.
           let φ = g.D.Drawing.means c.args.drawing.now in
-          let e : φ.items ≡ n = sym c.item-count-m.ensures ∙ c.if-m-n.false ∙ pass.count.0 ∙ hp.items in
+          let e : φ.items ≡ n = sym c.item_count-m.ensures ∙ c.if-m-n.false ∙ pass.count.0 ∙ hp.items in
           let holds = g.K.SetKind.holds in
           let a = c.args.paths.now.capacity in
           let b = c.args.cuts.now.capacity in
           let pos : 1 ≤ n = omega (arith, (counts_pass _ _ pass.checks).0, hp.items) in
           let sound = past_sound holds n a b ps cs past in
-          let pb = c.in-default.ensures n ps hp sound.0 e in
-          let cb = c.in-default-first-unborne.ensures n cs hc sound.1 e in
+          let pb = c.in_default.ensures n ps hp sound.0 e in
+          let cb = c.in_default-first_unborne.ensures n cs hc sound.1 e in
           let p = c.tighten.ensures.tightens n ps pos hp sound.0 e pb in
           let d = c.tighten-2.ensures.tightens n cs pos hc sound.1 e cb in
           let pe = c.tighten.ensures.kept.capacity in

@@ -33,8 +33,8 @@ returns-in-CannotHold g c = record {
       (p.0, p.2, (refl, q.0, q.1));
 }
 
-pub returns-in-default : goal.returns-in-default
-returns-in-default g c = record {
+pub returns-in_default : goal.returns-in_default
+returns-in_default g c = record {
   kept = c.offer.ensures.kept;
   only = tt;
   adds = λ n ps pos h items count works all.
@@ -45,7 +45,7 @@ returns-in-default g c = record {
         p.2,
         λ missed.
             let q = no_place n c.args.table.now.capacity g.K.SetKind.holds ψ ps (up c.shrink-least.result) (up c.args.set.now)
-            (least.minimal (count ∙ sym items) works) least.within all pos c.in-Err.fault c.in-default.not-CannotHold p.0 p.1 missed in
+            (least.minimal (count ∙ sym items) works) least.within all pos c.in-Err.fault c.in_default.not-CannotHold p.0 p.1 missed in
             (refl, q.0, q.1),
       );
 }

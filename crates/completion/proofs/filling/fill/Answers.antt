@@ -9,51 +9,51 @@ use Rattle.completion.proofs.Filled.{Filled, kept_same, kept_trans, filling_none
 use Rattle.completion.proofs.filling.fill.Goals as goal
 
 pub loop-turn-init : goal.loop-turn-init
-loop-turn-init g c = (kept_same, kept_same, filling_none c.item-count.result c.item-count.ensures c.new-search.ensures.stands c.new-search.ensures.fresh)
+loop-turn-init g c = (kept_same, kept_same, filling_none c.item_count.result c.item_count.ensures c.new-search.ensures.stands c.new-search.ensures.fresh)
 
-pub returns-in-default : goal.returns-in-default
-returns-in-default g c =
+pub returns-in_default : goal.returns-in_default
+returns-in_default g c =
     let inv = c.loop-turn.invariant in
     record {
-      paths-kept = inv.0;
-      cuts-kept = inv.1;
+      paths_kept = inv.0;
+      cuts_kept = inv.1;
       only = tt;
-      fills = filled_all inv.2 c.rows.ensures.rows c.rows-in-loop-turn.ensures.rows c.in-default.ensures.found;
+      fills = filled_all inv.2 c.rows.ensures.rows c.rows-in-loop-turn.ensures.rows c.in_default.ensures.found;
     }
 
 pub loop-turn-preserved : goal.loop-turn-preserved
 loop-turn-preserved g c =
     let inv = c.loop-turn.invariant in
-    let e = c.next-missed.ensures in (
-      kept_trans inv.0 c.learn.ensures.paths-kept,
-      kept_trans inv.1 c.learn.ensures.cuts-kept,
+    let e = c.next_missed.ensures in (
+      kept_trans inv.0 c.learn.ensures.paths_kept,
+      kept_trans inv.1 c.learn.ensures.cuts_kept,
       filling_more inv.2 c.rows.ensures.rows c.rows-in-loop-turn.ensures.rows inv.0.capacity inv.1.capacity
-          c.in-Some.missed c.in-Some.ensures.found c.learn.new.paths c.learn.new.cuts e.stands e.behind c.in-ok-learn.ensures.learns,
+          c.in-Some.missed c.in-Some.ensures.found c.learn.new.paths c.learn.new.cuts e.stands e.behind c.in_ok-learn.ensures.learns,
     )
 
-pub returns-in-err-learn : goal.returns-in-err-learn
-returns-in-err-learn g c =
+pub returns-in_err-learn : goal.returns-in_err-learn
+returns-in_err-learn g c =
     let inv = c.loop-turn.invariant in
-    let f = c.in-err-learn.field-0.0 in
-    let p = err_from_is_err_and c.from-residual.result c.from-residual.ensures.1 in
-    let same : c.from-residual.result ≡ Err f = p.1 ∙ ap Err p.2 in
+    let f = c.in_err-learn.field-0.0 in
+    let p = err_from_is_err_and c.from_residual.result c.from_residual.ensures.1 in
+    let same : c.from_residual.result ≡ Err f = p.1 ∙ ap Err p.2 in
     let P : Result (Unit {0}) CompletionFault → Type 0 =
     Filled g.K.SetKind.mem g.K.SetKind.holds (g.D.Drawing.means c.args.drawing.now) c.args.paths.now c.args.cuts.now c.learn.new.paths c.learn.new.cuts in
     record {
-      paths-kept = kept_trans inv.0 c.learn.ensures.paths-kept;
-      cuts-kept = kept_trans inv.1 c.learn.ensures.cuts-kept;
-      only = subst OnlyBlocked (sym same) c.in-err-learn.ensures.only;
+      paths_kept = kept_trans inv.0 c.learn.ensures.paths_kept;
+      cuts_kept = kept_trans inv.1 c.learn.ensures.cuts_kept;
+      only = subst OnlyBlocked (sym same) c.in_err-learn.ensures.only;
       fills = subst P (sym same)
           (filled_blocked inv.2 c.rows.ensures.rows c.rows-in-loop-turn.ensures.rows inv.0.capacity inv.1.capacity
-          c.in-Some.missed c.in-Some.ensures.found c.learn.new.paths c.learn.new.cuts f c.in-err-learn.ensures.learns);
+          c.in-Some.missed c.in-Some.ensures.found c.learn.new.paths c.learn.new.cuts f c.in_err-learn.ensures.learns);
     }
 
 pub returns : goal.returns
 returns g c =
     let inv = c.loop-turn.invariant in
     record {
-      paths-kept = inv.0;
-      cuts-kept = inv.1;
+      paths_kept = inv.0;
+      cuts_kept = inv.1;
       only = tt;
       fills = filled_never inv.2 (omega (arith, c.capacity.ensures, c.capacity-2.ensures, c.loop-turn-test.false)) (Err (MoreThanPlaces Paths));
     }

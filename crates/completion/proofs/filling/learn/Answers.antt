@@ -8,8 +8,8 @@ use Rattle.completion.proofs.filling.learn.Goals as goal
 
 pub returns-then-works : goal.returns-then-works
 returns-then-works g c = record {
-  paths-kept = c.add.ensures.kept;
-  cuts-kept = kept_same;
+  paths_kept = c.add.ensures.kept;
+  cuts_kept = kept_same;
   only = c.add.ensures.only;
   learns = λ n ps cs pos hp hc items missed pm cm.
       let φ = g.D.Drawing.means c.args.drawing.now in
@@ -25,8 +25,8 @@ returns-then-works g c = record {
 
 pub returns-else-works : goal.returns-else-works
 returns-else-works g c = record {
-  paths-kept = kept_same;
-  cuts-kept = c.add-else-works.ensures.kept;
+  paths_kept = kept_same;
+  cuts_kept = c.add-else-works.ensures.kept;
   only = c.add-else-works.ensures.only;
   learns = λ n ps cs pos hp hc items missed pm cm.
       let φ = g.D.Drawing.means c.args.drawing.now in

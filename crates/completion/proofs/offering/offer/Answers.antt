@@ -4,15 +4,15 @@ use Rattle.systems.specs.States.{up}
 use Rattle.tables.specs.Refusals.{table_reply}
 use Rattle.completion.proofs.Items.{collected_skip, collected_more, offers_collected}
 use Rattle.completion.proofs.offering.offer.Goals as goal
-use Rattle.completion.proofs.offering.offer.Goals.{then-is-up, else-is-up}
+use Rattle.completion.proofs.offering.offer.Goals.{then-is_up, else-is_up}
 
 pub loop-item-preserved : goal.loop-item-preserved
 loop-item-preserved g c =
     let s = up c.args.row.now in
     let lt : c.loop-item.item < 256 = omega (arith, c.args.row.now.few) in
-    elim c.if-is-up.branch [
-      | then-is-up w ↦ rw (w.items-is, w.len-is) (collected_more s c.loop-item.items c.loop-item.item c.loop-item.len c.loop-item.invariant lt w.if-is-up.ensures)
-      | else-is-up w ↦ rw (w.items-is, w.len-is) (collected_skip s c.loop-item.items c.loop-item.item c.loop-item.len c.loop-item.invariant w.if-is-up.ensures)
+    elim c.if-is_up.branch [
+      | then-is_up w ↦ rw (w.items-is, w.len-is) (collected_more s c.loop-item.items c.loop-item.item c.loop-item.len c.loop-item.invariant lt w.if-is_up.ensures)
+      | else-is_up w ↦ rw (w.items-is, w.len-is) (collected_skip s c.loop-item.items c.loop-item.item c.loop-item.len c.loop-item.invariant w.if-is_up.ensures)
     ]
 
 pub returns : goal.returns

@@ -14,8 +14,8 @@ loop-i-preserved g c =
     let i = c.loop-i.i in
     let called : i < length c.args.calls.now = omega arith in
     let answered : i < length c.loop-i.answers = omega arith in (
-      kept_trans inv.0 c.step.ensures.paths-kept,
-      kept_trans inv.1 c.step.ensures.cuts-kept,
+      kept_trans inv.0 c.step.ensures.paths_kept,
+      kept_trans inv.1 c.step.ensures.cuts_kept,
       beyond_set c.args.answers.now c.loop-i.answers i c.step.result inv.2,
       running_more inv.3 inv.0.capacity inv.1.capacity (PutPath (record { ref_ptr = (0, 0); now = [] })) c.step.result called answered c.step.ensures.steps,
     )
@@ -36,13 +36,13 @@ returns g c =
           let b = min 4096 (length c.args.cut_memory.now) in
           let r = inv.3 c.args.n p.empty q.empty in
           replayed a b r all p.capacity q.capacity
-          (left a p.capacity p.length (λ k d h. p.beyond k d (omega (arith, p.capacity))) inv.0 r.paths (search (rules, paths-lent)) c.row-count.ensures.count)
-          (left b q.capacity q.length (λ k d h. q.beyond k d (omega (arith, q.capacity))) inv.1 r.cuts (search (rules, cuts-lent)) c.row-count-2.ensures.count);
+          (left a p.capacity p.length (λ k d h. p.beyond k d (omega (arith, p.capacity))) inv.0 r.paths (search (rules, paths-lent)) c.row_count.ensures.count)
+          (left b q.capacity q.length (λ k d h. q.beyond k d (omega (arith, q.capacity))) inv.1 r.cuts (search (rules, cuts-lent)) c.row_count-2.ensures.count);
       wrong = λ out.
           let p = c.open-paths.ensures.wrong out in
           let q = c.open-cuts.ensures.wrong out in
           let r = inv.3 0 p.empty q.empty in
           replayed 0 0 r all p.capacity q.capacity
-          (left 0 p.capacity (ap length p.memory_same) (λ k d h. ap (λ l. get_or l k d) p.memory_same) inv.0 r.paths (search (rules, paths-lent)) c.row-count.ensures.count)
-          (left 0 q.capacity (ap length q.memory_same) (λ k d h. ap (λ l. get_or l k d) q.memory_same) inv.1 r.cuts (search (rules, cuts-lent)) c.row-count-2.ensures.count);
+          (left 0 p.capacity (ap length p.memory_same) (λ k d h. ap (λ l. get_or l k d) p.memory_same) inv.0 r.paths (search (rules, paths-lent)) c.row_count.ensures.count)
+          (left 0 q.capacity (ap length q.memory_same) (λ k d h. ap (λ l. get_or l k d) q.memory_same) inv.1 r.cuts (search (rules, cuts-lent)) c.row_count-2.ensures.count);
     }

@@ -9,7 +9,7 @@ use Rattle.completion.proofs.tightening.first_unborne.Goals as goal
 
 pub loop-i-init : goal.loop-i-init
 loop-i-init g c =
-    borne_none (g.D.Drawing.means c.args.drawing.now) c.args.side c.item-count-n.result (map (meant g.K.SetKind.mem) c.rows-row-items.result.now)
+    borne_none (g.D.Drawing.means c.args.drawing.now) c.args.side c.item_count-n.result (map (meant g.K.SetKind.mem) c.rows-row-items.result.now)
 
 pub returns-then-not-bears : goal.returns-then-not-bears
 returns-then-not-bears g c n ps holds sound e =
@@ -22,10 +22,10 @@ returns-then-not-bears g c n ps holds sound e =
     let there : i < length xs = omega arith in
     let row : get_or rows i nothing ≡ mem c.set.result.now = row_is mem xs i c.row-item.result c.set.result.now there c.row-item.is c.set.ensures in
     let is : rows ≡ ps = c.rows-row-items.ensures.rows n ps holds in
-    let count : c.item-count-n.result ≡ n = c.item-count-n.ensures ∙ holds.items in
+    let count : c.item_count-n.result ≡ n = c.item_count-n.ensures ∙ holds.items in
     subst (λ (l : List Numbers). FirstUnborne (side_of φ c.args.side) l i) is
-    (first_unborne_lem φ c.args.side c.item-count-n.result rows i (mem c.set.result.now) c.alone-up.result c.bears.result
-    (simp length-map there) row (c.alone-up.ensures.count (omega (arith, c.item-count-n.ensures))) c.alone-up.ensures.marks c.bears.ensures
+    (first_unborne_lem φ c.args.side c.item_count-n.result rows i (mem c.set.result.now) c.alone_up.result c.bears.result
+    (simp length-map there) row (c.alone_up.ensures.count (omega (arith, c.item_count-n.ensures))) c.alone_up.ensures.marks c.bears.ensures
     c.if-not-bears.true (count ∙ sym e) (rows_low _ n rows ps count is sound.items) c.loop-i.invariant)
 
 pub loop-i-preserved : goal.loop-i-preserved
@@ -38,8 +38,8 @@ loop-i-preserved g c =
     let i = c.loop-i.i in
     let there : i < length xs = omega arith in
     let row : get_or rows i nothing ≡ mem c.set.result.now = row_is mem xs i c.row-item.result c.set.result.now there c.row-item.is c.set.ensures in
-    borne_more φ c.args.side c.item-count-n.result rows i (mem c.set.result.now) c.alone-up.result c.bears.result
-    (simp length-map there) row (c.alone-up.ensures.count (omega (arith, c.item-count-n.ensures))) c.alone-up.ensures.marks c.bears.ensures
+    borne_more φ c.args.side c.item_count-n.result rows i (mem c.set.result.now) c.alone_up.result c.bears.result
+    (simp length-map there) row (c.alone_up.ensures.count (omega (arith, c.item_count-n.ensures))) c.alone_up.ensures.marks c.bears.ensures
     c.if-not-bears.false c.loop-i.invariant
 
 pub returns : goal.returns
@@ -48,6 +48,6 @@ returns g c n ps holds sound e =
     let xs = c.rows-row-items.result.now in
     let rows = map (meant g.K.SetKind.mem) xs in
     let is : rows ≡ ps = c.rows-row-items.ensures.rows n ps holds in
-    let count : c.item-count-n.result ≡ n = c.item-count-n.ensures ∙ holds.items in
+    let count : c.item_count-n.result ≡ n = c.item_count-n.ensures ∙ holds.items in
     subst (λ (l : List Numbers). AllBorne (side_of φ c.args.side) l) is
-    (all_borne φ c.args.side c.item-count-n.result rows c.loop-i.i (simp length-map (omega arith)) (count ∙ sym e) (rows_low _ n rows ps count is sound.items) c.loop-i.invariant)
+    (all_borne φ c.args.side c.item_count-n.result rows c.loop-i.i (simp length-map (omega arith)) (count ∙ sym e) (rows_low _ n rows ps count is sound.items) c.loop-i.invariant)

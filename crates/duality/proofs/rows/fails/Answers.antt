@@ -6,9 +6,9 @@ use Rattle.tables.specs.Memory.{meant}
 use Rattle.duality.proofs.RowFacts.{fails_at, none_more, not_fails}
 use Rattle.duality.proofs.rows.fails.Goals as goal
 
-pub returns-then-all-down : goal.returns-then-all-down
-returns-then-all-down g c =
-    let w = c.if-all-down.ensures.0 refl in (
+pub returns-then-all_down : goal.returns-then-all_down
+returns-then-all_down g c =
+    let w = c.if-all_down.ensures.0 refl in (
       λ _. fails_at g.K.SetKind.mem c.args.cuts.now c.loop-row.row-index c.row-item.result c.set.result.now (omega arith) c.row-item.is c.set.ensures (up c.args.state.now) w,
       λ _. refl,
     )
@@ -16,7 +16,7 @@ returns-then-all-down g c =
 pub loop-row-preserved : goal.loop-row-preserved
 loop-row-preserved g c =
     none_more g.K.SetKind.mem c.args.cuts.now c.loop-row.row-index c.row-item.result c.set.result.now (omega arith) c.row-item.is c.set.ensures
-    (λ v. Apart v (up c.args.state.now)) c.loop-row.invariant (λ w. false≢true (c.if-all-down.ensures.1 w))
+    (λ v. Apart v (up c.args.state.now)) c.loop-row.invariant (λ w. false≢true (c.if-all_down.ensures.1 w))
 
 pub returns : goal.returns
 returns g c = (

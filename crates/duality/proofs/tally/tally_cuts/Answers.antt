@@ -7,7 +7,7 @@ use Rattle.duality.specs.Shares.{left_cuts, is_apart}
 use Rattle.duality.proofs.Tallies.{tallied_few, tested_apart, passed_room, passed_more, passed_same}
 use Rattle.duality.proofs.tally.tally_cuts.Given as given
 use Rattle.duality.proofs.tally.tally_cuts.Goals as goal
-use Rattle.duality.proofs.tally.tally_cuts.Goals.{then-all-down, else-all-down}
+use Rattle.duality.proofs.tally.tally_cuts.Goals.{then-all_down, else-all_down}
 
 small : (g : given.Over) (x : g.row.K.Denot) → Below 256 (g.K.SetKind.mem x)
 small g x k m = omega (arith, g.met.K.SetKind.small, g.met.K.SetKind.below x k m)
@@ -28,19 +28,19 @@ loop-row-preserved g c =
     let mem = g.K.SetKind.mem in
     let low = up c.args.low.now in
     let y = c.set.result.now in
-    elim c.if-all-down.branch [
-      | then-all-down w ↦
+    elim c.if-all_down.branch [
+      | then-all_down w ↦
           rw (
             w.tally-is,
             passed_more (λ r. is_apart r low) mem c.args.cuts.now c.loop-row.row-index c.row-item.result y (omega arith) c.row-item.is c.set.ensures
-                (tested_apart (mem y) low (small g y) true w.if-all-down.ensures) w.set-then-all-down.result.now w.set-then-all-down.ensures,
+                (tested_apart (mem y) low (small g y) true w.if-all_down.ensures) w.set-then-all_down.result.now w.set-then-all_down.ensures,
           )
           (w.add.ensures _ c.loop-row.invariant)
-      | else-all-down w ↦
+      | else-all_down w ↦
           rw (
             w.tally-is,
             passed_same (λ r. is_apart r low) mem c.args.cuts.now c.loop-row.row-index c.row-item.result y (omega arith) c.row-item.is c.set.ensures
-                (tested_apart (mem y) low (small g y) false w.if-all-down.ensures),
+                (tested_apart (mem y) low (small g y) false w.if-all_down.ensures),
           )
           c.loop-row.invariant
     ]

@@ -7,7 +7,7 @@ use Rattle.duality.specs.Shares.{left_paths, is_within}
 use Rattle.duality.proofs.Tallies.{tallied_few, tested_within, passed_room, passed_more, passed_same}
 use Rattle.duality.proofs.tally.tally_paths.Given as given
 use Rattle.duality.proofs.tally.tally_paths.Goals as goal
-use Rattle.duality.proofs.tally.tally_paths.Goals.{then-all-up, else-all-up}
+use Rattle.duality.proofs.tally.tally_paths.Goals.{then-all_up, else-all_up}
 
 small : (g : given.Over) (x : g.row.K.Denot) → Below 256 (g.K.SetKind.mem x)
 small g x k m = omega (arith, g.met.K.SetKind.small, g.met.K.SetKind.below x k m)
@@ -28,19 +28,19 @@ loop-row-preserved g c =
     let mem = g.K.SetKind.mem in
     let high = up c.args.high.now in
     let y = c.set.result.now in
-    elim c.if-all-up.branch [
-      | then-all-up w ↦
+    elim c.if-all_up.branch [
+      | then-all_up w ↦
           rw (
             w.tally-is,
             passed_more (λ r. is_within r high) mem c.args.paths.now c.loop-row.row-index c.row-item.result y (omega arith) c.row-item.is c.set.ensures
-                (tested_within (mem y) high (small g y) true w.if-all-up.ensures) w.set-then-all-up.result.now w.set-then-all-up.ensures,
+                (tested_within (mem y) high (small g y) true w.if-all_up.ensures) w.set-then-all_up.result.now w.set-then-all_up.ensures,
           )
           (w.add.ensures _ c.loop-row.invariant)
-      | else-all-up w ↦
+      | else-all_up w ↦
           rw (
             w.tally-is,
             passed_same (λ r. is_within r high) mem c.args.paths.now c.loop-row.row-index c.row-item.result y (omega arith) c.row-item.is c.set.ensures
-                (tested_within (mem y) high (small g y) false w.if-all-up.ensures),
+                (tested_within (mem y) high (small g y) false w.if-all_up.ensures),
           )
           c.loop-row.invariant
     ]

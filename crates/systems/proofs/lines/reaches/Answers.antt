@@ -3,7 +3,7 @@ use Rattle.systems.proofs.Reaching.{spread_none, spread_more, spread_most, decid
 use Rattle.systems.proofs.lines.reaches.Goals as goal
 
 pub loop-pass-init : goal.loop-pass-init
-loop-pass-init c = spread_none _ _ _ _ _ (omega arith) c.only-first-marks.ensures
+loop-pass-init c = spread_none _ _ _ _ _ (omega arith) c.only_first-marks.ensures
 
 pub loop-pass-preserved : goal.loop-pass-preserved
 loop-pass-preserved c = spread_more _ _ _ _ _ _ _ _ c.loop-pass.invariant c.spread.ensures c.if-not-spread.false

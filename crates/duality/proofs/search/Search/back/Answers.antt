@@ -11,7 +11,7 @@ returns-then-frame c =
     let f = c.in-Some.frame in
     let fs = c.in-Some.ensures.0 in
     let e = c.in-Some.ensures.1 in
-    let then : opened c.turn-last.new.self ≡ turned f ∷ fs = c.turn-last.ensures f fs e in
+    let then : opened c.turn_last.new.self ≡ turned f ∷ fs = c.turn_last.ensures f fs e in
     record {
       stands = λ n st.
           let h : Half n (f ∷ fs) s.low s.high = subst (λ (l : List Frame). Half n l s.low s.high) e (c.loop-frame.invariant.0 n st) in

@@ -19,7 +19,7 @@ returns-then-not-back g c =
     let cs = map (meant g.K.SetKind.mem) c.args.cuts.now in
     let s = c.halves.self in
     let fs = opened s.splits in
-    let cover = λ (n : ℕ) (h : Half n fs s.low s.high). closed n ps cs fs s.low s.high h (c.is-closed.ensures.0 c.if-is-closed.true) in
+    let cover = λ (n : ℕ) (h : Half n fs s.low s.high). closed n ps cs fs s.low s.high h (c.is_closed.ensures.0 c.if-is_closed.true) in
     record {
       stands = λ n st. c.back.ensures.stands n (c.halves.invariant n st).0;
       behind = λ n st b. let i = c.halves.invariant n st in subst (λ (l : List Frame). Settled n ps cs l) (sym c.back.ensures.back) (settled_back n ps cs fs (i.1 b) (cover n i.0));
@@ -39,48 +39,48 @@ halves-preserved-else-not-back g c n st =
     let s = c.halves.self in
     let fs = opened s.splits in
     let i = c.halves.invariant n st in
-    let cover = closed n ps cs fs s.low s.high i.0 (c.is-closed.ensures.0 c.if-is-closed.true) in
+    let cover = closed n ps cs fs s.low s.high i.0 (c.is_closed.ensures.0 c.if-is_closed.true) in
     (c.back.ensures.stands n i.0, (λ b. subst (λ (l : List Frame). Settled n ps cs l) (sym c.back.ensures.back) (settled_back n ps cs fs (i.1 b) cover)))
 
 -- no path is left: the greatest state of the half is missed
-pub returns-then-left-paths-eq0 : goal.returns-then-left-paths-eq0
-returns-then-left-paths-eq0 g c =
+pub returns-then-left_paths-eq0 : goal.returns-then-left_paths-eq0
+returns-then-left_paths-eq0 g c =
     let mem = g.K.SetKind.mem in
     let small = g.met.K.SetKind.small in
     let ps = map (meant mem) c.args.paths.now in
     let low = rows_below (meant mem) (λ x k t. let lt = g.met.K.SetKind.below x.set k t in omega arith) c.args.paths.now in
-    let none : length (left_paths ps (up c.halves.self.high)) ≡ 0 = sym c.tally-paths-left-paths.ensures.count ∙ c.if-left-paths-eq0.true in
+    let none : length (left_paths ps (up c.halves.self.high)) ≡ 0 = sym c.tally_paths-left_paths.ensures.count ∙ c.if-left_paths-eq0.true in
     record {
       stands = λ n st. (c.halves.invariant n st).0;
       behind = λ n st. (c.halves.invariant n st).1;
-      found = λ n st. ((c.halves.invariant n st).0.high_count, (no_path_left ps low (up c.halves.self.high) none, (λ d. both_ways c.is-closed.result c.if-is-closed.false (c.is-closed.ensures.1 (inr d)))));
+      found = λ n st. ((c.halves.invariant n st).0.high_count, (no_path_left ps low (up c.halves.self.high) none, (λ d. both_ways c.is_closed.result c.if-is_closed.false (c.is_closed.ensures.1 (inr d)))));
     }
 
 -- no cut is left: the least state of the half is missed
-pub returns-then-left-cuts-eq0 : goal.returns-then-left-cuts-eq0
-returns-then-left-cuts-eq0 g c =
+pub returns-then-left_cuts-eq0 : goal.returns-then-left_cuts-eq0
+returns-then-left_cuts-eq0 g c =
     let mem = g.K.SetKind.mem in
     let small = g.met.K.SetKind.small in
     let cs = map (meant mem) c.args.cuts.now in
     let low = rows_below (meant mem) (λ x k t. let lt = g.met.K.SetKind.below x.set k t in omega arith) c.args.cuts.now in
-    let none : length (left_cuts cs (up c.halves.self.low)) ≡ 0 = sym c.tally-cuts-left-cuts.ensures.count ∙ c.if-left-cuts-eq0.true in
+    let none : length (left_cuts cs (up c.halves.self.low)) ≡ 0 = sym c.tally_cuts-left_cuts.ensures.count ∙ c.if-left_cuts-eq0.true in
     record {
       stands = λ n st. (c.halves.invariant n st).0;
       behind = λ n st. (c.halves.invariant n st).1;
-      found = λ n st. ((c.halves.invariant n st).0.low_count, ((λ w. both_ways c.is-closed.result c.if-is-closed.false (c.is-closed.ensures.1 (inl w))), no_cut_left cs low (up c.halves.self.low) none));
+      found = λ n st. ((c.halves.invariant n st).0.low_count, ((λ w. both_ways c.is_closed.result c.if-is_closed.false (c.is_closed.ensures.1 (inl w))), no_cut_left cs low (up c.halves.self.low) none));
     }
 
 -- nothing is undecided, so the half would be closed
-pub returns-in-default : goal.returns-in-default
-returns-in-default g c =
+pub returns-in_default : goal.returns-in_default
+returns-in_default g c =
     let mem = g.K.SetKind.mem in
     let small = g.met.K.SetKind.small in
     let ps = map (meant mem) c.args.paths.now in
     let s = c.halves.self in
     let low = rows_below (meant mem) (λ x k t. let lt = g.met.K.SetKind.below x.set k t in omega arith) c.args.paths.now in
-    let some : Works ps (up s.high) = some_path_left ps low (up s.high) (λ z. c.if-left-paths-eq0.false (c.tally-paths-left-paths.ensures.count ∙ z)) in
-    let decided : Within (up s.high) (up s.low) = c.in-default.ensures _ _ c.tally-paths-left-paths.ensures c.tally-cuts-left-cuts.ensures in
-    let never : ⊥ = both_ways c.is-closed.result c.if-is-closed.false (c.is-closed.ensures.1 (inl (works_more ps (up s.high) (up s.low) some decided))) in
+    let some : Works ps (up s.high) = some_path_left ps low (up s.high) (λ z. c.if-left_paths-eq0.false (c.tally_paths-left_paths.ensures.count ∙ z)) in
+    let decided : Within (up s.high) (up s.low) = c.in_default.ensures _ _ c.tally_paths-left_paths.ensures c.tally_cuts-left_cuts.ensures in
+    let never : ⊥ = both_ways c.is_closed.result c.if-is_closed.false (c.is_closed.ensures.1 (inl (works_more ps (up s.high) (up s.low) some decided))) in
     record { stands = λ n st. absurd never; behind = λ n st. absurd never; found = λ n st. absurd never }
 
 -- there are never more splits than items
@@ -88,7 +88,7 @@ pub returns-then-not-push : goal.returns-then-not-push
 returns-then-not-push g c =
     let s = c.halves.self in
     let item = c.in-Some.item in
-    let chosen = c.in-Some.ensures _ _ c.tally-paths-left-paths.ensures c.tally-cuts-left-cuts.ensures in
+    let chosen = c.in-Some.ensures _ _ c.tally_paths-left_paths.ensures c.tally_cuts-left_cuts.ensures in
     let never : (n : ℕ) → Half n (opened s.splits) s.low s.high → ⊥ =
     λ n h.
     let few = s.low.few in
@@ -117,7 +117,7 @@ halves-preserved g c n st =
     let fs = opened s.splits in
     let i = c.halves.invariant n st in
     let item = c.in-Some.item in
-    let chosen = c.in-Some.ensures _ _ c.tally-paths-left-paths.ensures c.tally-cuts-left-cuts.ensures in
+    let chosen = c.in-Some.ensures _ _ c.tally_paths-left_paths.ensures c.tally_cuts-left_cuts.ensures in
     let inside : item < s.high.count = below_count s.high item chosen.not_down in
     let low : item < s.low.count = omega (arith, i.0.low_count, i.0.high_count) in
     let lt : item < n = omega (arith, i.0.high_count) in

@@ -16,14 +16,14 @@ returns-then-self-ge16 c =
       refl,
     )
 
-pub invariant-of-self : goal.invariant-of-self
-invariant-of-self c =
+pub invariant_of-self : goal.invariant_of-self
+invariant_of-self c =
     let x = c.args.self.now in
-    let r = c.put-in-numbers in
-    ((omega arith, put_rising x.len x.numbers r.result c.args.k r.ensures x.ok.1 (omega arith) (sym c.if-member.ensures)), tt)
+    let r = c.put_in-numbers in
+    record { ok = (omega arith, put_rising x.len x.numbers r.result c.args.k r.ensures x.ok.1 (omega arith) (sym c.if-member.ensures)) }
 
 pub returns : goal.returns
 returns c =
     let x = c.args.self.now in
-    let r = c.put-in-numbers in
+    let r = c.put_in-numbers in
     put_list x.len x.numbers r.result c.args.k r.ensures

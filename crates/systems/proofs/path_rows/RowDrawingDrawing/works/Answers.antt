@@ -11,5 +11,5 @@ returns-then-self-gt4096 g c =
 pub returns : goal.returns
 returns g c =
     let top = g.met.K.SetKind.small in
-    decides_drawn c.args.self.now.items (map g.K.SetKind.mem c.args.self.now.rows.now) c.args.state.now c.some-up.result (omega arith)
-    (each_low g.K.SetKind.mem c.args.self.now.rows.now (λ x k m. let low = g.met.K.SetKind.below x k m in omega arith)) c.some-up.ensures
+    decides_drawn c.args.self.now.items (map g.K.SetKind.mem c.args.self.now.rows.now) c.args.state.now c.some_up.result (omega arith)
+    (each_low g.K.SetKind.mem c.args.self.now.rows.now (λ x k m. let low = g.met.K.SetKind.below x k m in omega arith)) c.some_up.ensures

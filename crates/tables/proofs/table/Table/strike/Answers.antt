@@ -20,9 +20,9 @@ returns-then-row-count g c = record {
 
 pub returns : goal.returns
 returns g c = record {
-  kept = record { items = refl; capacity = refl; length = c.close-up.ensures.long; beyond = λ k d a. c.close-up.ensures.beyond k d (omega arith) };
+  kept = record { items = refl; capacity = refl; length = c.close_up.ensures.long; beyond = λ k d a. c.close_up.ensures.beyond k d (omega arith) };
   refused = tt;
   strikes = λ n ps h.
       let le : c.args.self.now.count ≤ length c.args.self.now.memory.places.now = omega arith in
-      rw (← h.items) (_, strike_done (omega arith) (omega (arith, standing_many le h.standing)), record { items = refl; standing = c.close-up.ensures.rows _ ps h.standing });
+      rw (← h.items) (_, strike_done (omega arith) (omega (arith, standing_many le h.standing)), record { items = refl; standing = c.close_up.ensures.rows _ ps h.standing });
 }

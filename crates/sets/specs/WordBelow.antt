@@ -1,0 +1,9 @@
+-- The members of a word are below 64.
+use Rattle.std.specs.Prelude.{ℕ, nat_lt}
+use Rattle.std.proofs.Common.{ltb→lt}
+use Rattle.sets.specs.Sets.{Below}
+use Rattle.sets.specs.Words.{bit, word_set}
+use Rattle.sets.specs.Truth.{and_T}
+
+pub word_below : (n : ℕ) → Below 64 (word_set n)
+word_below n k t = ltb→lt k 64 (and_T (nat_lt k 64) (bit n k) t).0
