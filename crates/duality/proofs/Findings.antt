@@ -1,8 +1,7 @@
 -- What an audit may say, from what its parts found.
-use Rattle.std.proofs.Common.{◌≡◌, ℕ, ◌+◌, ◌<◌, ◌≤◌, Bool, true, false, cond, T, eqb, ◌⊎◌, List, [], ◌∷◌, map, length, get_or, sym, refl, ap, ◌∙◌, subst, inl, inr, ⊎_elim, arith}
-use Rattle.std.proofs.lemmas.List.{length-map}
+use Rattle.std.proofs.Common.{◌≡◌, ℕ, ◌<◌, true, false, ◌⊎◌, List, ◌∷◌, length, sym, ◌∙◌, inl, inr, ⊎_elim, arith}
 use Rattle.std.proofs.lemmas.Bool.{cases_lt, both_ways}
-use Rattle.sets.specs.Sets.{Numbers, nothing, Within, Below}
+use Rattle.sets.specs.Sets.{Numbers, Within, Below}
 use Rattle.systems.specs.Systems.{Works, Fails}
 use Rattle.systems.specs.States.{up}
 use Rattle.duality.specs.Halves.{Agrees, Covered, Half, Fresh}

@@ -1,6 +1,5 @@
 -- Whether any row is left in a half.
-use Rattle.std.proofs.Common.{◌≡◌, ℕ, zero, suc, ◌<◌, ◌≤◌, Bool, true, false, cond, not, List, [], ◌∷◌, map, length, get_or, filter, sym, refl, ◌∙◌, subst, arith}
-use Rattle.std.proofs.lemmas.List.{length-map, get_or-map}
+use Rattle.std.proofs.Common.{◌≡◌, ℕ, zero, suc, ◌<◌, Bool, true, false, cond, List, [], ◌∷◌, map, length, get_or, filter, sym, refl, ◌∙◌, subst, arith}
 use Rattle.sets.specs.Sets.{Numbers, nothing, Below}
 use Rattle.sets.proofs.Deciding.{decides_within}
 use Rattle.systems.specs.Systems.{Works, Fails, EachRow}

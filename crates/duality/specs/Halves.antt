@@ -9,7 +9,7 @@
 --   Covered   a path row is up in the state, or a cut row down
 --   Settled   of each split in its second half, the first half is covered
 --   Half      `low` and `high` are the least and the greatest state of the half
-use Rattle.std.specs.Prelude.{◌≡◌, ℕ, zero, suc, ◌<◌, Bool, true, false, cond, ◌⊎◌, List, [], ◌∷◌, length, ◌==◌, nat_lt, slice_index_or}
+use Rattle.std.specs.Prelude.{◌≡◌, ℕ, zero, suc, ◌<◌, true, false, cond, ◌⊎◌, List, [], ◌∷◌, ◌==◌, nat_lt, slice_index_or}
 use Rattle.sets.specs.Sets.{Numbers, Below}
 use Rattle.systems.specs.States.{up}
 use Rattle.systems.specs.Systems.{Works, Fails}

@@ -1,5 +1,5 @@
 use Rattle.std.proofs.Common.{arith}
-use Rattle.duality.proofs.Stacking.{stacked_push, length_stacked}
+use Rattle.duality.proofs.Stacking.{stacked_push}
 use Rattle.duality.proofs.splits.Splits.push.Goals as goal
 
 pub returns : goal.returns
