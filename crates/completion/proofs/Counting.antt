@@ -10,9 +10,9 @@ use Rattle.completion.specs.Completions.{Untouched, Counts, paths_closed, cuts_c
 
 -- what the check of the two tables refuses
 pub counts_refused : (p c d number : ℕ) (values : List ℕ) → Pairs p c (refused number values) → Counts p c d (refused number values)
-counts_refused p c d number values (pairs.paths-closed e) = paths_closed e
-counts_refused p c d number values (pairs.cuts-closed pos e) = cuts_closed pos e
-counts_refused p c d number values (pairs.counts-differ pos low ne) = tables_differ pos low ne
+counts_refused p c d number values (pairs.paths_closed e) = paths_closed e
+counts_refused p c d number values (pairs.cuts_closed pos e) = cuts_closed pos e
+counts_refused p c d number values (pairs.counts_differ pos low ne) = tables_differ pos low ne
 
 -- what it lets pass
 pub counts_pass : (p c : ℕ) → Pairs p c (answered tt) → (1 ≤ p) × (p ≡ c)
@@ -28,9 +28,9 @@ counts_same p c d n m r h a b e = let q = counts_pass p c h in counts_agree r q.
 
 -- two tables of n items are refused only with 1, and n is 0
 pub one_count : (p c n number : ℕ) (values : List ℕ) (P : ℕ → List ℕ → Type 0) → p ≡ n → c ≡ n → Pairs p c (refused number values) → (n ≡ 0 → P 1 (n ∷ [])) → P number values
-one_count p c n number values P a b (pairs.paths-closed e) h = subst (λ (k : ℕ). P 1 (k ∷ [])) (sym a) (h (sym a ∙ e))
-one_count p c n number values P a b (pairs.cuts-closed pos e) h = absurd (omega arith)
-one_count p c n number values P a b (pairs.counts-differ pos low ne) h = absurd (ne (a ∙ sym b))
+one_count p c n number values P a b (pairs.paths_closed e) h = subst (λ (k : ℕ). P 1 (k ∷ [])) (sym a) (h (sym a ∙ e))
+one_count p c n number values P a b (pairs.cuts_closed pos e) h = absurd (omega arith)
+one_count p c n number values P a b (pairs.counts_differ pos low ne) h = absurd (ne (a ∙ sym b))
 
 -- a refusal for want of a place or of a kind may alter the tables
 pub only_untouched : (r : Result (Unit {0}) CompletionFault) (Same : Type 0) → OnlyBlocked r → Untouched r Same

@@ -1,6 +1,7 @@
 -- The turns of the loop that adds rows until no state is missed.
 use Rattle.std.proofs.Common.{◌≡◌, ℕ, ◌+◌, ◌<◌, ◌≤◌, List, [], length, Ok, Err, Result, sym, refl, ◌∙◌, subst, arith}
 use Rattle.sets.specs.Sets.{Numbers}
+use Rattle.sets.specs.declared.kind.SetKind.{Ghosts}
 use Rattle.systems.specs.Systems.{Structure}
 use Rattle.systems.specs.declared.state.State.{State}
 use Rattle.tables.specs.Tables.{Holds, Kept}
@@ -15,10 +16,10 @@ use Rattle.completion.specs.declared.side.Side.TheVariants.{Paths, Cuts}
 use Rattle.completion.specs.declared.fault.CompletionFault.{CompletionFault}
 use Rattle.completion.proofs.Learning.{tightened_same, both_trans, settled_finer}
 
-pub kept_same : {X : Type 0} {t : Table X} → Kept t t
+pub kept_same : {X : Type 0} {G : Ghosts X} {t : Table X G} → Kept t t
 kept_same = record { items = refl; capacity = refl; length = refl; beyond = λ k d h. refl }
 
-pub kept_trans : {X : Type 0} {t u v : Table X} → Kept t u → Kept u v → Kept t v
+pub kept_trans : {X : Type 0} {G : Ghosts X} {t u v : Table X G} → Kept t u → Kept u v → Kept t v
 kept_trans a b = record {
   items = b.items ∙ a.items;
   capacity = b.capacity ∙ a.capacity;
@@ -27,7 +28,7 @@ kept_trans a b = record {
 }
 
 -- the rows that the tables P and C have, with the search at s, after so many turns from the rows ps and cs
-pub record Reached {X : Type 0} (mem : X → Numbers) (holds : Numbers → Type 0) (φ : Structure) (n a b : ℕ) (ps cs : List Numbers) (P C : Table X) (s : Search) (turn : ℕ) : Type 0 where
+pub record Reached {X : Type 0} {G : Ghosts X} (mem : X → Numbers) (holds : Numbers → Type 0) (φ : Structure) (n a b : ℕ) (ps cs : List Numbers) (P C : Table X G) (s : Search) (turn : ℕ) : Type 0 where
   pub qs : List Numbers
   pub ds : List Numbers
   pub paths : Holds mem P n qs
@@ -38,23 +39,23 @@ pub record Reached {X : Type 0} (mem : X → Numbers) (holds : Numbers → Type 
   pub counted : length qs + length ds ≡ length ps + length cs + turn
 
 -- what `learn` and `fill` say, of tables with minimal rows
-abbrev pub Filled : {X : Type 0} → (X → Numbers) → (Numbers → Type 0) → Structure → Table X → Table X → Table X → Table X → Result (Unit {0}) CompletionFault → Type 0
+abbrev pub Filled : {X : Type 0} {G : Ghosts X} → (X → Numbers) → (Numbers → Type 0) → Structure → Table X G → Table X G → Table X G → Table X G → Result (Unit {0}) CompletionFault → Type 0
 Filled mem holds φ P C P' C' r = (n : ℕ) (ps cs : List Numbers) → 1 ≤ n → Holds mem P n ps → Holds mem C n cs → φ.items ≡ n
     → Minimals n P.capacity holds (side_of φ Paths) ps → Minimals n C.capacity holds (side_of φ Cuts) cs
     → (qs ds : List Numbers) × Holds mem P' n qs × Holds mem C' n ds × Fills n P.capacity C.capacity holds φ ps cs r qs ds
 
-abbrev pub Learnt : {X : Type 0} → (X → Numbers) → (Numbers → Type 0) → Structure → State → Table X → Table X → Table X → Table X → Result (Unit {0}) CompletionFault → Type 0
+abbrev pub Learnt : {X : Type 0} {G : Ghosts X} → (X → Numbers) → (Numbers → Type 0) → Structure → State → Table X G → Table X G → Table X G → Table X G → Result (Unit {0}) CompletionFault → Type 0
 Learnt mem holds φ missed P C P' C' r = (n : ℕ) (ps cs : List Numbers) → 1 ≤ n → Holds mem P n ps → Holds mem C n cs → φ.items ≡ n → MissedState n ps cs missed
     → Minimals n P.capacity holds (side_of φ Paths) ps → Minimals n C.capacity holds (side_of φ Cuts) cs
     → (qs ds : List Numbers) × Holds mem P' n qs × Holds mem C' n ds × Learns n P.capacity C.capacity holds φ ps cs r qs ds
 
-abbrev pub Filling : {X : Type 0} → (X → Numbers) → (Numbers → Type 0) → Structure → Table X → Table X → Table X → Table X → Search → ℕ → Type 0
+abbrev pub Filling : {X : Type 0} {G : Ghosts X} → (X → Numbers) → (Numbers → Type 0) → Structure → Table X G → Table X G → Table X G → Table X G → Search → ℕ → Type 0
 Filling mem holds φ P₀ C₀ P C s turn = (n : ℕ) (ps cs : List Numbers) → 1 ≤ n → Holds mem P₀ n ps → Holds mem C₀ n cs → φ.items ≡ n
     → Minimals n P₀.capacity holds (side_of φ Paths) ps → Minimals n C₀.capacity holds (side_of φ Cuts) cs
     → Reached mem holds φ n P₀.capacity C₀.capacity ps cs P C s turn
 
 -- a search from the start
-pub filling_none : {X : Type 0} {mem : X → Numbers} {holds : Numbers → Type 0} {φ : Structure} {P C : Table X} {s : Search} (count : ℕ)
+pub filling_none : {X : Type 0} {G : Ghosts X} {mem : X → Numbers} {holds : Numbers → Type 0} {φ : Structure} {P C : Table X G} {s : Search} (count : ℕ)
     → count ≡ P.items → (count ≤ 256 → Stands count s) → opened s.splits ≡ [] → Filling mem holds φ P C P C s 0
 filling_none {P = P} {s = s} count is stands fresh n ps cs pos hp hc items pm cm = record {
   qs = ps;
@@ -67,7 +68,7 @@ filling_none {P = P} {s = s} count is stands fresh n ps cs pos hp hc items pm cm
   counted = omega arith;
 }
 
-module _ {X : Type 0} {mem : X → Numbers} {holds : Numbers → Type 0} {φ : Structure} {P₀ C₀ P C : Table X} {s : Search} {turn : ℕ} (inv : Filling mem holds φ P₀ C₀ P C s turn) where
+module _ {X : Type 0} {G : Ghosts X} {mem : X → Numbers} {holds : Numbers → Type 0} {φ : Structure} {P₀ C₀ P C : Table X G} {s : Search} {turn : ℕ} (inv : Filling mem holds φ P₀ C₀ P C s turn) where
   -- there are no more rows than places, so no more turns
   pub filled_never : P₀.capacity + C₀.capacity < turn → (r : Result (Unit {0}) CompletionFault) → Filled mem holds φ P₀ C₀ P C r
   filled_never lt r n ps cs pos hp hc items pm cm =
@@ -90,7 +91,7 @@ module _ {X : Type 0} {mem : X → Numbers} {holds : Numbers → Type 0} {φ : S
         (i.qs, i.ds, i.paths, i.cuts, (i.tight, from_read AllCovered n i.qs i.ds i.paths i.cuts (found n i.stands behind)))
 
     -- a missed state is learnt from
-    module _ (kept_paths : P.capacity ≡ P₀.capacity) (kept_cuts : C.capacity ≡ C₀.capacity) (missed : State) (found : (n : ℕ) → Stands n s → MissedState n us vs missed) (P' C' : Table X) where
+    module _ (kept_paths : P.capacity ≡ P₀.capacity) (kept_cuts : C.capacity ≡ C₀.capacity) (missed : State) (found : (n : ℕ) → Stands n s → MissedState n us vs missed) (P' C' : Table X G) where
       record Turn (r : Result (Unit {0}) CompletionFault) (n : ℕ) (ps cs : List Numbers) : Type 0 where
         pub before : Reached mem holds φ n P₀.capacity C₀.capacity ps cs P C s turn
         pub qs : List Numbers

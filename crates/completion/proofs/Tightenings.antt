@@ -1,23 +1,23 @@
 -- The loop in which rows give way to minimal ones.
-use Rattle.std.proofs.Common.{◌≡◌, ℕ, zero, suc, ◌+◌, ◌-◌, ◌<◌, ◌≤◌, max, Bool, true, false, cond, not, T, ◌⊎◌, List, [], ◌∷◌, ◌++◌, length, get_or, take, drop, filter, sym, refl, ap, ◌∙◌, subst, inl, inr, ⊎_elim, arith}
+use Rattle.std.proofs.Common.{◌≡◌, ℕ, suc, ◌+◌, ◌-◌, ◌<◌, ◌≤◌, max, Bool, true, false, cond, not, T, List, [], ◌∷◌, ◌++◌, length, get_or, take, drop, filter, sym, refl, ap, ◌∙◌, subst, inl, inr, ⊎_elim, arith}
 use mathlib.Core.Path.{fun_ext}
 use Rattle.std.specs.List.{remove, AllByRecursion as All}
 use Rattle.std.proofs.lemmas.List.{append-nil, append_assoc, length-append, get_or_append_left, get_or-append-add, length_push, get_or_push}
 use Rattle.std.proofs.lemmas.List.Elements.{filter-append}
 use Rattle.std.proofs.ByRecursion.{All-get_or, All-from_get_or, All-append, All-push, All-weaker, All-take, All-drop, all_kept_by}
 use Rattle.std.proofs.lemmas.List.Edits.{length-remove, get_or-remove_below, get_or-remove_above}
-use Rattle.std.proofs.lemmas.Bool.{cases_Bool, cases_eq, cases_order, both_ways, cond-true, cond-false}
+use Rattle.std.proofs.lemmas.Bool.{cases_Bool, cases_eq, cases_order, cond-true, cond-false}
 use Rattle.sets.specs.Sets.{Numbers, nothing, Within, Below, within_below}
-use Rattle.systems.specs.Systems.{Structure, MinimalPath, Works, EachRow}
+use Rattle.systems.specs.Systems.{Structure, MinimalPath, Works}
 use Rattle.systems.specs.States.{up}
 use Rattle.systems.specs.declared.state.State.{State}
 use Rattle.systems.proofs.Minimal.{minimal_path_back, within_both}
-use Rattle.tables.specs.Rows.{Sound, ContainsNone, LowestContained, stays, staying, after_put}
+use Rattle.tables.specs.Rows.{Sound, LowestContained, stays, staying, after_put}
 use Rattle.tables.specs.Pasts.{Accepted, Finer}
 use Rattle.tables.proofs.Sifting.{stays_yes, stays_no, kept_fewer}
 use Rattle.tables.proofs.Histories.{sound_put, sound_struck}
 use Rattle.sets.proofs.Deciding.{decides_within}
-use Rattle.completion.specs.Sides.{side_of, AllBorne, Minimals, Tightened}
+use Rattle.completion.specs.Sides.{side_of, AllBorne, Tightened}
 use Rattle.completion.specs.declared.side.Side.{Side}
 use Rattle.completion.proofs.Minimality.{finer_trans}
 use Rattle.completion.proofs.Bearings.{alone_is}
@@ -176,7 +176,7 @@ module _ (n capacity : ℕ) (holds : Numbers → Type 0) (ψ : Structure) (ps : 
 
   module _ (rs : List Numbers) (at end : ℕ) (o : Opening rs at end) where
     whole : rs ≡ o.tight.front ++ (o.head ∷ (o.tail ++ o.tight.back))
-    whole = o.tight.is ∙ ap (λ l. o.tight.front ++ (l ++ o.tight.back)) o.middle-is
+    whole = o.tight.is ∙ ap (λ l. o.tight.front ++ (l ++ o.tight.back)) o.middle_is
 
     -- it is minimal already
     pub tight_same : MinimalPath ψ (get_or rs at nothing) → Tightening n capacity holds ψ ps rs (at + 1) end
@@ -188,8 +188,8 @@ module _ (n capacity : ℕ) (holds : Numbers → Type 0) (ψ : Structure) (ps : 
           back = t.back;
           is = whole ∙ sym (append_assoc t.front (o.head ∷ []) (o.tail ++ t.back));
           at_is = length_push t.front o.head ∙ omega (arith, t.at_is);
-          end_is = omega (arith, length_push t.front o.head, t.end_is, ap length o.middle-is);
-          front_least = All-push (MinimalPath ψ) t.front o.head t.front_least (subst (MinimalPath ψ) o.head-is m);
+          end_is = omega (arith, length_push t.front o.head, t.end_is, ap length o.middle_is);
+          front_least = All-push (MinimalPath ψ) t.front o.head t.front_least (subst (MinimalPath ψ) o.head_is m);
           back_least = t.back_least;
           sound = t.sound;
           borne = t.borne;
@@ -225,7 +225,7 @@ module _ (n capacity : ℕ) (holds : Numbers → Type 0) (ψ : Structure) (ps : 
       left = filter (stays n p) o.tail
 
       gone : stays n p o.head ≡ false
-      gone = stays_no n p o.head ok.items (subst (Within p) o.head-is inside)
+      gone = stays_no n p o.head ok.items (subst (Within p) o.head_is inside)
 
       stayed : staying n rs p ≡ o.tight.front ++ (left ++ o.tight.back)
       unfolding left
@@ -251,7 +251,7 @@ module _ (n capacity : ℕ) (holds : Numbers → Type 0) (ψ : Structure) (ps : 
           let d = length-append left t.back in
           let lw = ap length whole in
           let ls = ap length stayed in
-          let lm = ap length o.middle-is in
+          let lm = ap length o.middle_is in
           let lf = fewer in
           record {
             front = t.front;
@@ -278,7 +278,7 @@ module _ (n capacity : ℕ) (holds : Numbers → Type 0) (ψ : Structure) (ps : 
       pub tight_strike : Tightening n capacity holds ψ ps (remove rs at) at (end - 1)
       tight_strike =
           let t = o.tight in
-          let lm = ap length o.middle-is in
+          let lm = ap length o.middle_is in
           let is : remove rs at ≡ t.front ++ (o.tail ++ t.back) =
           ap (λ l. remove l at) whole ∙ ap (λ k. remove (t.front ++ (o.head ∷ (o.tail ++ t.back))) k) (sym t.at_is) ∙ removed_at t.front o.head (o.tail ++ t.back) in
           let other : i ≡ at → ⊥ = λ e. out (subst (λ k. Within (get_or rs k nothing) p) e low.contained) in

@@ -7,9 +7,8 @@
 use Rattle.std.specs.Prelude.{◌≡◌, ℕ, ◌+◌, ◌≤◌, List, length, Ok, Err, Result}
 use Rattle.sets.specs.Sets.{Numbers}
 use Rattle.systems.specs.Systems.{Structure, MinimalPath, Works, Among}
-use Rattle.tables.specs.Pasts.{Finer}
 use Rattle.duality.specs.Searches.{AllCovered}
-use Rattle.completion.specs.Sides.{side_of, Minimals, Tightened}
+use Rattle.completion.specs.Sides.{side_of, Tightened}
 use Rattle.completion.specs.declared.side.Side.{Side}
 use Rattle.completion.specs.declared.side.Side.TheVariants.{Paths, Cuts}
 use Rattle.completion.specs.declared.fault.CompletionFault.{CompletionFault}

@@ -7,4 +7,4 @@ abbrev pub invariant-loop-turn : goal.invariant-loop-turn
 invariant-loop-turn g l =
     Kept l.initial.paths l.paths
     × Kept l.initial.cuts l.cuts
-    × Filling g.K.SetKind.mem g.K.SetKind.holds (g.D.Drawing.means l.drawing) l.initial.paths l.initial.cuts l.paths l.cuts l.search l.-turn
+    × Filling g.K.SetKind.mem g.K.SetKind.holds (g.D.Drawing.means l.drawing) l.initial.paths l.initial.cuts l.paths l.cuts l.search l._turn

@@ -1,18 +1,11 @@
-use Rattle.std.proofs.Common.{◌≡◌, ℕ, ◌+◌, ◌-◌, ◌<◌, ◌≤◌, max, T, List, length, get_or, sym, refl, ap, ◌∙◌, subst, arith, w64, Fits}
-use mathlib.Core.Path.{fun_ext}
+use Rattle.std.proofs.Common.{◌≡◌, ℕ, ◌+◌, ◌-◌, ◌<◌, ◌≤◌, max, List, length, get_or, sym, refl, ap, ◌∙◌, subst, arith, w64, Fits}
 use Rattle.std.specs.List.{remove}
-use Rattle.std.proofs.lemmas.Bool.{false≢true, both_ways}
-use Rattle.sets.specs.Sets.{Numbers, nothing, Within, Below}
+use Rattle.std.proofs.lemmas.Bool.{both_ways}
+use Rattle.sets.specs.Sets.{Numbers, nothing, Within}
 use Rattle.systems.specs.States.{up}
-use Rattle.systems.specs.Systems.{MinimalPath}
-use Rattle.systems.proofs.Minimal.{within_both}
-use Rattle.tables.specs.Rows.{Sound, after_put}
-use Rattle.tables.specs.Tables.{Holds}
 use Rattle.tables.specs.Refusals.{answered}
-use Rattle.completion.specs.Sides.{side_of, AllBorne}
+use Rattle.completion.specs.Sides.{side_of}
 use Rattle.completion.specs.Offers.{Offers}
-use Rattle.completion.proofs.Shrinking.{side_items, state_below}
-use Rattle.completion.proofs.Bearings.{alone_is}
 use Rattle.completion.proofs.Filled.{kept_trans}
 use Rattle.completion.proofs.Replied.{row_shown, row_refused, row_struck, offer_taken, offer_kept}
 use Rattle.completion.proofs.Tightenings.{Tightening, opening, tight_none, tight_all, tight_same, tight_put, tight_strike, shrunk, shrunk_same}
