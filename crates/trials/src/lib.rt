@@ -1,7 +1,6 @@
 // Tests of tables on examples.
 #![tactic(auto)]
 
-
 #[cfg(test)]
 mod tests {
     use sets::{ListSet, SetKind, WordSet};
