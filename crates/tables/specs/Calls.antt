@@ -7,7 +7,7 @@
 --   Puts      of `put`
 --   Strikes   of `strike`
 --   Shows     of the call that shows a row
-use Rattle.std.specs.Prelude.{◌≡◌, ℕ, ◌+◌, ◌-◌, ◌<◌, ◌≤◌, true, false, ◌⊎◌, List, [], ◌∷◌, length, get_or, take, slice_index, slice_index_or}
+use Rattle.std.specs.Prelude.{◌≡◌, ℕ, ◌+◌, ◌-◌, ◌<◌, ◌≤◌, true, false, ◌⊎◌, List, [], ◌∷◌, length, take, slice_index, slice_index_or}
 use Rattle.std.specs.List.{remove}
 use Rattle.sets.specs.Sets.{Numbers, nothing, listed}
 use Rattle.tables.specs.Refusals.{Reply, answered, refused}
@@ -18,7 +18,7 @@ pub data Judges (top items : ℕ) : Reply (Unit {0}) → Type 0 where
   judge_refuses : (items ≡ 0) ⊎ (top < items) → Judges top items (refused 1 (items ∷ []))
 
 pub record Passes (n : ℕ) (holds : Numbers → Type 0) (items : List ℕ) (i : ℕ) : Type 0 where
-  pub below : get_or items i 0 < n
+  pub below : slice_index items i < n
   pub once : listed (take i items) (slice_index items i) ≡ false
   pub held : holds (listed (take (i + 1) items))
 
