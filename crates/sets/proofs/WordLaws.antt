@@ -17,9 +17,6 @@ word_bit a k h = ap (λ b. b && bit a k) (lt-ltb k 64 h)
 pub word_past : (a k : ℕ) → 64 ≤ k → word_set a k ≡ false
 word_past a k h = ap (λ b. b && bit a k) (le-ltb k 64 h)
 
-pub word_under : (a : ℕ) → Below 64 (word_set a)
-word_under a k t = ltb→lt k 64 (and_T (ltb k 64) (bit a k) t).0
-
 pub word_member : (a k : ℕ) → k < 64 → eqb (bit_and (a / 2 ^ k) 1) 1 ≡ word_set a k
 word_member a k h = ap (λ (x : ℕ). eqb x 1) (and_mask (a / 2 ^ k) 1) ∙ sym (word_bit a k h)
 

@@ -5,5 +5,5 @@ use Rattle.sets.specs.Sets.{Below}
 use Rattle.sets.specs.Words.{bit, word_set}
 use Rattle.sets.specs.Truth.{and_T}
 
-pub word_below : (n : ℕ) → Below 64 (word_set n)
-word_below n k t = ltb→lt k 64 (and_T (nat_lt k 64) (bit n k) t).0
+pub word_under : (a : ℕ) → Below 64 (word_set a)
+word_under a k t = ltb→lt k 64 (and_T (nat_lt k 64) (bit a k) t).0

@@ -2,7 +2,7 @@
 ghost use Rattle.std.specs.Prelude.{◌≡◌, ℕ, ◌^◌, ◌<◌};
 ghost use Rattle.sets.specs.Sets.{Below};
 ghost use Rattle.sets.specs.Words.{word_set};
-ghost use Rattle.sets.specs.WordBelow.{word_below};
+ghost use Rattle.sets.specs.WordBelow.{word_under};
 ghost use Rattle.std.proofs.Common.{lit≤};
 
 use crate::kind::SetKind;
@@ -29,9 +29,9 @@ impl SetKind for WordSet {
 
     ghost small = { lit≤ tt };
 
-    ghost below = { λ x. word_below x.bits };
+    ghost below = { λ x. word_under x.bits };
 
-    ghost held = { λ x. word_below x.bits };
+    ghost held = { λ x. word_under x.bits };
 
     ghost none = { λ k t. absurd t };
 
