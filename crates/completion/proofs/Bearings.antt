@@ -1,53 +1,37 @@
--- Rows that a drawing bears out, by their places.
-use Rattle.std.proofs.Common.{◌≡◌, ℕ, ◌+◌, ◌<◌, ◌≤◌, Bool, true, false, T, List, length, get_or, sym, ap, ◌∙◌, subst, ⊎_elim, arith, below_more}
-use mathlib.Core.Path.{fun_ext}
-use Rattle.std.proofs.lemmas.Bool.{cases_lt, both_ways}
+-- Rows alone up, and the first that a structure function does not bear out.
+use Rattle.std.proofs.Common.{◌≡◌, ℕ, zero, suc, ◌<◌, Bool, true, false, List, [], ◌∷◌, map, length, get_or, None, Option, Some, arith}
+use Rattle.std.specs.List.{AllWithin, HoldsAt}
+use Rattle.std.specs.Option.{MatchOption}
+use Rattle.std.proofs.lemmas.Bool.{both_ways}
+use Rattle.std.proofs.lemmas.List.{length-map}
 use Rattle.sets.specs.Sets.{Numbers, nothing, Below}
-use Rattle.sets.specs.Truth.{holds_true, true_holds, fails_false}
-use Rattle.systems.specs.States.{up}
+use Rattle.sets.specs.Truth.{holds_true, true_holds}
 use Rattle.systems.specs.Systems.{Structure, EachRow}
-use Rattle.systems.specs.declared.state.State.{State}
-use Rattle.completion.specs.Sides.{side_of, AllBorne, FirstUnborne}
-use Rattle.completion.specs.declared.side.Side.{Side}
+use Rattle.tables.specs.Memory.{meant}
+use Rattle.tables.specs.declared.row.Row.{Row}
+use Rattle.completion.specs.Completions.{PathBorne, FirstNot}
 
--- a state with just the items of a row up
-pub alone_is : (s : State) (p : Numbers) → Below s.count p → ((k : ℕ) → k < s.count → up s k ≡ p k) → up s ≡ p
-alone_is s p low marks =
-    fun_ext (λ k. ⊎_elim (marks k)
-    (λ (ge : s.count ≤ k). s.down k ge ∙ sym (fails_false (p k) (λ t. let lt = low k t in omega arith)))
-    (cases_lt k s.count))
+-- the structure function, with just the items of the row up, answers b, if the row fits it
+abbrev pub Answered : {X : Type 0} → (X → Numbers) → Structure → Bool → Row X → Type 0
+Answered mem φ b row = Below φ.items (meant mem row) → φ.works (meant mem row) ≡ b
 
--- the rows before place i are borne out, if the drawing and the rows fit the count n
-pub record BorneBefore (φ : Structure) (side : Side) (n : ℕ) (rows : List Numbers) (i : ℕ) : Type 0 where
-  pub borne : n ≡ φ.items → EachRow rows (Below n) → (j : ℕ) → j < i → T ((side_of φ side).works (get_or rows j nothing))
+module _ {X : Type 0} (mem : X → Numbers) (φ : Structure) where
+  answer_of : (b : Bool) (xs : List (Row X)) (i : ℕ) → i < length xs → ((d : Row X) → Answered mem φ b (get_or xs i d))
+      → Below φ.items (get_or (map (meant mem) xs) i nothing) → φ.works (get_or (map (meant mem) xs) i nothing) ≡ b
+  answer_of b [] i lt h low = absurd (omega arith)
+  answer_of b (x ∷ xs) zero lt h low = h x low
+  answer_of b (x ∷ xs) (suc i) lt h low = answer_of b xs i (omega arith) h low
 
-module _ (φ : Structure) (side : Side) (n : ℕ) (rows : List Numbers) where
-  pub borne_none : BorneBefore φ side n rows 0
-  borne_none = record { borne = λ e low j lt. absurd (omega arith) }
+  -- r is the first of the rows xs that is answered no
+  module _ (xs : List (Row X)) (low : EachRow (map (meant mem) xs) (Below φ.items)) where
+    answer_at : (b : Bool) (i : ℕ) → i < length xs → ((d : Row X) → Answered mem φ b (get_or xs i d)) → φ.works (get_or (map (meant mem) xs) i nothing) ≡ b
+    answer_at b i lt h = answer_of b xs i lt h (low i (simp length-map lt))
 
-  -- the set of row i is p, s has just its items up, and the drawing answers r
-  module _ (i : ℕ) (p : Numbers) (s : State) (r : Bool) (there : i < length rows) (row : get_or rows i nothing ≡ p) (count : s.count ≡ n) (marks : (k : ℕ) → k < s.count → up s k ≡ p k) (bears : s.count ≡ φ.items → r ≡ (side_of φ side).works (up s)) where
-    row_test : n ≡ φ.items → EachRow rows (Below n) → r ≡ (side_of φ side).works (get_or rows i nothing)
-    row_test e low =
-        let below : Below s.count p = λ k t. let lt = low i there k (subst (λ (v : Numbers). T (v k)) (sym row) t) in omega arith in
-        bears (count ∙ e) ∙ ap (side_of φ side).works (alone_is s p below marks ∙ sym row)
-
-    pub borne_more : r ≡ true → BorneBefore φ side n rows i → BorneBefore φ side n rows (i + 1)
-    borne_more t h = record {
-      borne = λ e low. below_more (λ j. T ((side_of φ side).works (get_or rows j nothing))) i (h.borne e low) (true_holds _ (sym (row_test e low) ∙ t));
+    pub first_not : (r : Option ℕ) → MatchOption r (AllWithin (Answered mem φ true) xs 0 (length xs)) (λ i. (i < length xs) × HoldsAt (Answered mem φ false) xs i × AllWithin (Answered mem φ true) xs 0 i)
+        → MatchOption r (EachRow (map (meant mem) xs) (PathBorne φ)) (FirstNot (PathBorne φ) (map (meant mem) xs))
+    first_not None h = λ i lt. let lt = simp length-map at lt in true_holds _ (answer_at true i lt (λ d. h i d (omega arith) lt))
+    first_not (Some i) h = record {
+      there = simp length-map (h.0);
+      fails = λ t. both_ways _ (answer_at false i h.0 h.1) (holds_true _ t);
+      first = λ k lt. true_holds _ (answer_at true k (omega (arith, h.0)) (λ d. h.2 k d (omega arith) lt));
     }
-
-    pub first_unborne_lem : r ≡ false → n ≡ φ.items → EachRow rows (Below n) → BorneBefore φ side n rows i → FirstUnborne (side_of φ side) rows i
-    first_unborne_lem f e low h = record {
-      there = there;
-      unborne = λ t. both_ways r f (row_test e low ∙ holds_true _ t);
-      first = h.borne e low;
-    }
-
-  pub all_borne : (i : ℕ) → length rows ≤ i → n ≡ φ.items → EachRow rows (Below n) → BorneBefore φ side n rows i → AllBorne (side_of φ side) rows
-  all_borne i le e low h j lt = h.borne e low j (omega arith)
-
--- the rows as they are read have items below the count
-pub rows_low : (n m : ℕ) (rows ps : List Numbers) → n ≡ m → rows ≡ ps → EachRow ps (Below m) → EachRow rows (Below n)
-rows_low n m rows ps e is low =
-    subst (λ (k : ℕ). EachRow rows (Below k)) (sym e) (subst (λ (l : List Numbers). EachRow l (Below m)) (sym is) low)

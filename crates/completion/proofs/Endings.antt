@@ -9,32 +9,25 @@ use Rattle.tables.specs.Refusals.{Reply, answered, refused}
 use Rattle.tables.specs.Rows.{Sound}
 use Rattle.tables.specs.Pasts.{Fit, Improved, Past, completed, stopped}
 use Rattle.duality.specs.Searches.{AllCovered}
-use Rattle.completion.specs.Sides.{side_of, AllBorne, FirstUnborne, Tightened}
-use Rattle.completion.specs.Fills.{AtMost, TableFull, SomeUnheld, BothTightened, Blocks, Fills}
+use Rattle.completion.specs.Minimals.{Tightened}
+use Rattle.completion.specs.Fills.{AtMost, TableFull, SomeUnheld, BothTightened, BlocksAt, paths_block, cuts_block, Fills}
 use Rattle.completion.specs.Completions.{completion_refusal, completion_reply, PathBorne, CutBorne, Possible, FirstNot, Completed, Completes, complete_closed, complete_differs, complete_path_unborne, complete_cut_unborne, complete_paths_full, complete_cuts_full, complete_paths_unheld, complete_cuts_unheld, complete_done}
-use Rattle.completion.specs.declared.side.Side.TheVariants.{Paths, Cuts}
+use Rattle.completion.specs.declared.fault.Blocked.TheVariants.{Full, Unheld}
 use Rattle.completion.specs.declared.fault.CompletionFault.{CompletionFault}
-use Rattle.completion.specs.declared.fault.CompletionFault.TheVariants.{Pair, NotBorneOut, MoreThanPlaces, CannotHold}
 use Rattle.completion.proofs.Minimality.{dual_minimal}
 use Rattle.completion.proofs.Listing.{sound_once, lists_paths, lists_cuts}
 use Rattle.completion.proofs.Learning.{tightened_trans}
 
--- ---- rows that are borne out, and the first that is not
+-- ---- a cut row is a path row of the dual
 
 module _ (φ : Structure) (rows : List Numbers) where
-  pub borne_cuts : AllBorne (side_of φ Cuts) rows → EachRow rows (CutBorne φ)
+  pub borne_cuts : EachRow rows (PathBorne (dual φ)) → EachRow rows (CutBorne φ)
   borne_cuts b i h = T_not (φ.works (others φ.items (get_or rows i nothing))) (b i h)
 
-  pub cuts_borne : EachRow rows (CutBorne φ) → AllBorne (side_of φ Cuts) rows
-  cuts_borne b i h = not_T (φ.works (others φ.items (get_or rows i nothing))) (b i h)
-
-  pub first_not_path : (i : ℕ) → FirstUnborne (side_of φ Paths) rows i → FirstNot (PathBorne φ) rows i
-  first_not_path i f = record { there = f.there; fails = f.unborne; first = f.first }
-
-  pub first_not_cut : (i : ℕ) → FirstUnborne (side_of φ Cuts) rows i → FirstNot (CutBorne φ) rows i
+  pub first_not_cut : (i : ℕ) → FirstNot (PathBorne (dual φ)) rows i → FirstNot (CutBorne φ) rows i
   first_not_cut i f = record {
     there = f.there;
-    fails = λ b. f.unborne (not_T (φ.works (others φ.items (get_or rows i nothing))) b);
+    fails = λ b. f.fails (not_T (φ.works (others φ.items (get_or rows i nothing))) b);
     first = λ k h. T_not (φ.works (others φ.items (get_or rows k nothing))) (f.first k h);
   }
 
@@ -101,22 +94,20 @@ module _ (n a b : ℕ) (holds : Numbers → Type 0) (φ : Structure) (ps cs : Li
       refuses : (r : Reply (Unit {0})) → Completes n a b holds φ ps cs r qs ds → (Possible n a b holds φ ps cs → ⊥) → Completed n a b holds φ ps cs r qs ds
       refuses r outcome f = record { outcome = outcome; done = λ pos p. absurd (f p); past = past_stopped }
 
-      no_cut_room : TableFull b (side_of φ Cuts) ds → AtMost b (MinimalCut φ) → ⊥
+      no_cut_room : TableFull b (dual φ) ds → AtMost b (MinimalCut φ) → ⊥
       no_cut_room t m = t.more (at_most_as b (MinimalCut φ) (MinimalPath (dual φ)) (dual_minimal φ) m)
 
-      some_cut_unheld : SomeUnheld holds (side_of φ Cuts) → ((c : Numbers) → MinimalCut φ c → holds c) → ⊥
+      some_cut_unheld : SomeUnheld holds (dual φ) → ((c : Numbers) → MinimalCut φ c → holds c) → ⊥
       some_cut_unheld u h = u (λ c m. h c (dual_minimal φ c m))
 
-      pub blocked_completed : (f : CompletionFault) → Blocks a b holds φ qs ds f → Completed n a b holds φ ps cs (refused (completion_refusal f).number (completion_refusal f).values) qs ds
-      blocked_completed (Pair f) w = absurd w
-      blocked_completed (NotBorneOut t i) w = absurd w
-      blocked_completed (MoreThanPlaces Paths) w =
+      pub blocked_completed : (f : CompletionFault) → BlocksAt a b holds φ qs ds f → Completed n a b holds φ ps cs (refused (completion_refusal f).number (completion_refusal f).values) qs ds
+      blocked_completed f (paths_block Full w) =
           refuses (refused 10 (0 ∷ [])) (complete_paths_full count paths_improved cuts_improved w.full w.more) (λ p. w.more p.path_room)
-      blocked_completed (MoreThanPlaces Cuts) w =
-          refuses (refused 10 (1 ∷ [])) (complete_cuts_full count paths_improved cuts_improved w.full (no_cut_room w)) (λ p. no_cut_room w p.cut_room)
-      blocked_completed (CannotHold Paths) w =
+      blocked_completed f (paths_block Unheld w) =
           refuses (refused 11 (0 ∷ [])) (complete_paths_unheld count paths_improved cuts_improved w) (λ p. w p.paths_held)
-      blocked_completed (CannotHold Cuts) w =
+      blocked_completed f (cuts_block Full w) =
+          refuses (refused 10 (1 ∷ [])) (complete_cuts_full count paths_improved cuts_improved w.full (no_cut_room w)) (λ p. no_cut_room w p.cut_room)
+      blocked_completed f (cuts_block Unheld w) =
           refuses (refused 11 (1 ∷ [])) (complete_cuts_unheld count paths_improved cuts_improved (some_cut_unheld w)) (λ p. some_cut_unheld w p.cuts_held)
 
       module _ (paths_borne : EachRow ps (PathBorne φ)) (cuts_borne : EachRow cs (CutBorne φ)) where
@@ -141,7 +132,7 @@ module _ (n a b : ℕ) (holds : Numbers → Type 0) (φ : Structure) (ps cs : Li
 
     -- ---- the stages together: rows borne out, rows that gave way to minimal ones, rows added
 
-    module _ (paths_borne : EachRow ps (PathBorne φ)) (cuts_borne : EachRow cs (CutBorne φ)) (es fs : List Numbers) (paths : Tightened n a holds (side_of φ Paths) ps es) (cuts : Tightened n b holds (side_of φ Cuts) cs fs) (qs ds : List Numbers) where
+    module _ (paths_borne : EachRow ps (PathBorne φ)) (cuts_borne : EachRow cs (CutBorne φ)) (es fs : List Numbers) (paths : Tightened n a holds φ ps es) (cuts : Tightened n b holds (dual φ) cs fs) (qs ds : List Numbers) where
       both_trans : BothTightened n a b holds φ es fs qs ds → BothTightened n a b holds φ ps cs qs ds
       both_trans t = record { paths = tightened_trans paths t.paths; cuts = tightened_trans cuts t.cuts }
 

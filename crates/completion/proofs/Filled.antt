@@ -1,31 +1,20 @@
 -- The turns of the loop that adds rows until no state is missed.
-use Rattle.std.proofs.Common.{◌≡◌, ℕ, ◌+◌, ◌<◌, ◌≤◌, List, [], length, Ok, Err, Result, sym, refl, ◌∙◌, subst, arith}
+use Rattle.std.proofs.Common.{◌≡◌, ℕ, ◌+◌, ◌<◌, ◌≤◌, List, [], length, Ok, Err, Result, sym, subst, arith}
 use Rattle.sets.specs.Sets.{Numbers}
 use Rattle.sets.specs.declared.kind.SetKind.{Ghosts}
 use Rattle.systems.specs.Systems.{Structure}
+use Rattle.systems.specs.Duals.{dual}
 use Rattle.systems.specs.declared.state.State.{State}
-use Rattle.tables.specs.Tables.{Holds, Kept}
+use Rattle.tables.specs.Tables.{Holds}
 use Rattle.tables.specs.declared.table.Table.{Table}
 use Rattle.duality.specs.Halves.{opened, Settled}
 use Rattle.duality.specs.Searches.{Stands, Behind, AllCovered, MissedState}
 use Rattle.duality.specs.declared.search.Search.{Search}
 use Rattle.duality.specs.declared.splits.Frame.{Frame}
-use Rattle.completion.specs.Sides.{side_of, Minimals}
+use Rattle.completion.specs.Minimals.{Minimals}
 use Rattle.completion.specs.Fills.{BothTightened, Learns, Fills}
-use Rattle.completion.specs.declared.side.Side.TheVariants.{Paths, Cuts}
 use Rattle.completion.specs.declared.fault.CompletionFault.{CompletionFault}
 use Rattle.completion.proofs.Learning.{tightened_same, both_trans, settled_finer}
-
-pub kept_same : {X : Type 0} {G : Ghosts X} {t : Table X G} → Kept t t
-kept_same = record { items = refl; capacity = refl; length = refl; beyond = λ k d h. refl }
-
-pub kept_trans : {X : Type 0} {G : Ghosts X} {t u v : Table X G} → Kept t u → Kept u v → Kept t v
-kept_trans a b = record {
-  items = b.items ∙ a.items;
-  capacity = b.capacity ∙ a.capacity;
-  length = b.length ∙ a.length;
-  beyond = λ k d h. b.beyond k d (omega (arith, a.capacity)) ∙ a.beyond k d h;
-}
 
 -- the rows that the tables P and C have, with the search at s, after so many turns from the rows ps and cs
 pub record Reached {X : Type 0} {G : Ghosts X} (mem : X → Numbers) (holds : Numbers → Type 0) (φ : Structure) (n a b : ℕ) (ps cs : List Numbers) (P C : Table X G) (s : Search) (turn : ℕ) : Type 0 where
@@ -41,17 +30,17 @@ pub record Reached {X : Type 0} {G : Ghosts X} (mem : X → Numbers) (holds : Nu
 -- what `learn` and `fill` say, of tables with minimal rows
 abbrev pub Filled : {X : Type 0} {G : Ghosts X} → (X → Numbers) → (Numbers → Type 0) → Structure → Table X G → Table X G → Table X G → Table X G → Result (Unit {0}) CompletionFault → Type 0
 Filled mem holds φ P C P' C' r = (n : ℕ) (ps cs : List Numbers) → 1 ≤ n → Holds mem P n ps → Holds mem C n cs → φ.items ≡ n
-    → Minimals n P.capacity holds (side_of φ Paths) ps → Minimals n C.capacity holds (side_of φ Cuts) cs
+    → Minimals n P.capacity holds φ ps → Minimals n C.capacity holds (dual φ) cs
     → (qs ds : List Numbers) × Holds mem P' n qs × Holds mem C' n ds × Fills n P.capacity C.capacity holds φ ps cs r qs ds
 
 abbrev pub Learnt : {X : Type 0} {G : Ghosts X} → (X → Numbers) → (Numbers → Type 0) → Structure → State → Table X G → Table X G → Table X G → Table X G → Result (Unit {0}) CompletionFault → Type 0
 Learnt mem holds φ missed P C P' C' r = (n : ℕ) (ps cs : List Numbers) → 1 ≤ n → Holds mem P n ps → Holds mem C n cs → φ.items ≡ n → MissedState n ps cs missed
-    → Minimals n P.capacity holds (side_of φ Paths) ps → Minimals n C.capacity holds (side_of φ Cuts) cs
+    → Minimals n P.capacity holds φ ps → Minimals n C.capacity holds (dual φ) cs
     → (qs ds : List Numbers) × Holds mem P' n qs × Holds mem C' n ds × Learns n P.capacity C.capacity holds φ ps cs r qs ds
 
 abbrev pub Filling : {X : Type 0} {G : Ghosts X} → (X → Numbers) → (Numbers → Type 0) → Structure → Table X G → Table X G → Table X G → Table X G → Search → ℕ → Type 0
 Filling mem holds φ P₀ C₀ P C s turn = (n : ℕ) (ps cs : List Numbers) → 1 ≤ n → Holds mem P₀ n ps → Holds mem C₀ n cs → φ.items ≡ n
-    → Minimals n P₀.capacity holds (side_of φ Paths) ps → Minimals n C₀.capacity holds (side_of φ Cuts) cs
+    → Minimals n P₀.capacity holds φ ps → Minimals n C₀.capacity holds (dual φ) cs
     → Reached mem holds φ n P₀.capacity C₀.capacity ps cs P C s turn
 
 -- a search from the start
@@ -101,13 +90,13 @@ module _ {X : Type 0} {G : Ghosts X} {mem : X → Numbers} {holds : Numbers → 
         pub learns : Learns n P₀.capacity C₀.capacity holds φ before.qs before.ds r qs ds
 
       turn_of : (r : Result (Unit {0}) CompletionFault) → Learnt mem holds φ missed P C P' C' r → (n : ℕ) (ps cs : List Numbers) → 1 ≤ n → Holds mem P₀ n ps → Holds mem C₀ n cs → φ.items ≡ n
-          → Minimals n P₀.capacity holds (side_of φ Paths) ps → Minimals n C₀.capacity holds (side_of φ Cuts) cs → Turn r n ps cs
+          → Minimals n P₀.capacity holds φ ps → Minimals n C₀.capacity holds (dual φ) cs → Turn r n ps cs
       turn_of r learnt n ps cs pos hp hc items pm cm =
           let i = inv n ps cs pos hp hc items pm cm in
           let m = from_read (λ m q d. MissedState m q d missed) n i.qs i.ds i.paths i.cuts (found n i.stands) in
           let l = learnt n i.qs i.ds pos i.paths i.cuts items m
-          (subst (λ (k : ℕ). Minimals n k holds (side_of φ Paths) i.qs) (sym kept_paths) i.tight.paths.minimals)
-          (subst (λ (k : ℕ). Minimals n k holds (side_of φ Cuts) i.ds) (sym kept_cuts) i.tight.cuts.minimals) in
+          (subst (λ (k : ℕ). Minimals n k holds φ i.qs) (sym kept_paths) i.tight.paths.minimals)
+          (subst (λ (k : ℕ). Minimals n k holds (dual φ) i.ds) (sym kept_cuts) i.tight.cuts.minimals) in
           record {
             before = i;
             qs = l.0;

@@ -1,8 +1,9 @@
 -- Items that a loop collects, ascending, and the put of them.
-use Rattle.std.proofs.Common.{◌≡◌, ℕ, zero, suc, ◌+◌, ◌<◌, ◌≤◌, Bool, true, false, ◌&&◌, ◌||◌, T, eqb, ltb, List, [], ◌∷◌, ◌++◌, length, get_or, take, set, sym, refl, ap, ◌∙◌, subst, ap₂, inl, inr, ⊎_elim, arith}
+use Rattle.std.proofs.Common.{◌≡◌, ℕ, zero, suc, ◌+◌, ◌<◌, ◌≤◌, Bool, true, false, ◌&&◌, ◌||◌, T, eqb, ltb, List, [], ◌∷◌, ◌++◌, length, get_or, take, sym, refl, ap, ◌∙◌, subst, ap₂, inl, inr, ⊎_elim, arith}
 use mathlib.Core.Path.{fun_ext}
-use Rattle.std.proofs.lemmas.List.{take_more_set, take-append-le, take_at, get_or_append_left, get_or_at, length_push, length-set}
-use Rattle.std.proofs.lemmas.Bool.{cases_lt, cases_order, both_ways, and_left, and_right, and_from, or_left, lt-ltb, le-ltb, eq-eqb, ne_eqb}
+use Rattle.std.proofs.lemmas.List.{take-append-le, take_at, get_or_append_left, get_or_at, length_push}
+use Rattle.std.proofs.lemmas.Bool.{cases_lt, both_ways, and_left, le-ltb}
+use Rattle.std.proofs.lemmas.Bool.Decides.{nat_tests}
 use Rattle.sets.specs.Sets.{Numbers, nothing, with, Within, Below, listed}
 use Rattle.sets.specs.Listing.{listed_at}
 use Rattle.sets.specs.Truth.{or_T, T_or_left, T_or_right}
@@ -15,12 +16,11 @@ use Rattle.completion.specs.Offers.{Offers, offer_closed, offer_unheld, offer_co
 abbrev pub Distinct : List ℕ → Type 0
 Distinct xs = (i : ℕ) → i < length xs → listed (take i xs) (get_or xs i 0) ≡ false
 
--- the first len items are those of s below k
-pub record Collected (s : Numbers) (items : List ℕ) (k len : ℕ) : Type 0 where
-  pub room : length items ≡ 256
-  pub few : len ≤ k
-  pub is : (j : ℕ) → listed (take len items) j ≡ (ltb j k && s j)
-  pub distinct : Distinct (take len items)
+-- the items are those of s below k
+pub record Collected (s : Numbers) (items : List ℕ) (k : ℕ) : Type 0 where
+  pub few : length items ≤ k
+  pub is : (j : ℕ) → listed items j ≡ (ltb j k && s j)
+  pub distinct : Distinct items
 
 -- ---- one item more
 
@@ -43,54 +43,29 @@ distinct_push xs y d new i lt =
 -- ---- the loop
 
 step_skip : (s : Numbers) (k j : ℕ) → s k ≡ false → (ltb j k && s j) ≡ (ltb j (k + 1) && s j)
-step_skip s k j out =
-    elim (cases_order j k) [
-      | inl e ↦ and_right (ltb j k) (s j) (ap s e ∙ out) ∙ sym (and_right (ltb j (k + 1)) (s j) (ap s e ∙ out))
-      | inr (inl lt) ↦ ap (λ b. b && s j) (lt-ltb j k lt ∙ sym (lt-ltb j (k + 1) (omega arith)))
-      | inr (inr gt) ↦ ap (λ b. b && s j) (le-ltb j k (omega arith) ∙ sym (le-ltb j (k + 1) (omega arith)))
-    ]
+step_skip s k j out = grind (arith, nat_tests)
 
 step_more : (s : Numbers) (k j : ℕ) → s k ≡ true → (eqb j k || (ltb j k && s j)) ≡ (ltb j (k + 1) && s j)
-step_more s k j up =
-    elim (cases_order j k) [
-      | inl e ↦ or_left (eqb j k) (ltb j k && s j) (eq-eqb j k e) ∙ sym (and_from (ltb j (k + 1)) (s j) (lt-ltb j (k + 1) (omega arith)) (ap s e ∙ up))
-      | inr (inl lt) ↦ ap₂ (λ b d. b || (d && s j)) (ne_eqb j k (λ e. omega arith)) (lt-ltb j k lt ∙ sym (lt-ltb j (k + 1) (omega arith)))
-      | inr (inr gt) ↦ ap₂ (λ b d. b || (d && s j)) (ne_eqb j k (λ e. omega arith)) (le-ltb j k (omega arith) ∙ sym (le-ltb j (k + 1) (omega arith)))
-    ]
+step_more s k j up = grind (arith, nat_tests)
 
 step_all : (s : Numbers) (n k j : ℕ) → n ≤ k → ((i : ℕ) → n ≤ i → s i ≡ false) → (ltb j k && s j) ≡ s j
-step_all s n k j le down =
-    elim (cases_lt j k) [
-      | inl lt ↦ ap (λ b. b && s j) (lt-ltb j k lt)
-      | inr ge ↦ and_right (ltb j k) (s j) (down j (omega arith)) ∙ sym (down j (omega arith))
-    ]
+step_all s n k j le down = grind (arith, nat_tests)
 
-pub collected_none : (s : Numbers) (items : List ℕ) → length items ≡ 256 → Collected s items 0 0
-collected_none s items e = record {
-  room = e;
-  few = omega arith;
-  is = λ j. sym (and_left (ltb j 0) (s j) (le-ltb j 0 (omega arith)));
-  distinct = λ i lt. absurd (omega arith);
-}
+module _ (s : Numbers) (items : List ℕ) (k : ℕ) (h : Collected s items k) where
+  pub collected_skip : false ≡ s k → Collected s items (k + 1)
+  collected_skip out = record { few = omega (arith, h.few); is = λ j. h.is j ∙ step_skip s k j (sym out); distinct = h.distinct }
 
-module _ (s : Numbers) (items : List ℕ) (k len : ℕ) (h : Collected s items k len) where
-  pub collected_skip : false ≡ s k → Collected s items (k + 1) len
-  collected_skip out = record { room = h.room; few = omega arith; is = λ j. h.is j ∙ step_skip s k j (sym out); distinct = h.distinct }
-
-  pub collected_more : k < 256 → true ≡ s k → Collected s (set items len k) (k + 1) (len + 1)
-  collected_more lt up =
-      let place : len < length items = omega arith in
-      let more = take_more_set items len k place in
-      let new : listed (take len items) k ≡ false = h.is k ∙ and_left (ltb k k) (s k) (le-ltb k k (omega arith)) in
+  pub collected_more : true ≡ s k → Collected s (items ++ k ∷ []) (k + 1)
+  collected_more up =
+      let new : listed items k ≡ false = h.is k ∙ and_left (ltb k k) (s k) (le-ltb k k (omega arith)) in
       record {
-        room = length-set items len k ∙ h.room;
-        few = omega arith;
-        is = λ j. ap (λ l. listed l j) more ∙ listed_push (take len items) k j ∙ ap (λ b. eqb j k || b) (h.is j) ∙ step_more s k j (sym up);
-        distinct = subst Distinct (sym more) (distinct_push (take len items) k h.distinct new);
+        few = omega (arith, h.few, length_push items k);
+        is = λ j. listed_push items k j ∙ ap (λ b. eqb j k || b) (h.is j) ∙ step_more s k j (sym up);
+        distinct = distinct_push items k h.distinct new;
       }
 
   -- from n on nothing is in s
-  collected_all : (n : ℕ) → n ≤ k → ((j : ℕ) → n ≤ j → s j ≡ false) → listed (take len items) ≡ s
+  collected_all : (n : ℕ) → n ≤ k → ((j : ℕ) → n ≤ j → s j ≡ false) → listed items ≡ s
   collected_all n le down = fun_ext (λ j. h.is j ∙ step_all s n k j le down)
 
 -- ---- the put
@@ -124,10 +99,8 @@ module _ (n capacity : ℕ) (holds : Numbers → Type 0) (none : holds nothing) 
   offers_listed items low distinct r qs (put_done pos pass new room) =
       offer_done (record { items = low; held = pass_held n holds none items pass; new = new; room = room })
 
-  -- m is the length of the part of the items that is put
-  pub offers_collected : (s : Numbers) (items : List ℕ) (k len m : ℕ) → Collected s items k len → m ≡ len → n ≤ k → ((j : ℕ) → n ≤ j → s j ≡ false)
-      → (r : Reply ℕ) (qs : List Numbers) → Puts n capacity holds rows (take m items) r qs → Offers n capacity holds rows s r qs
-  offers_collected s items k len m h same le down r qs puts =
-      let is = collected_all s items k len h n le down in
-      let puts : Puts n capacity holds rows (take len items) r qs = subst (λ i. Puts n capacity holds rows (take i items) r qs) same puts in
-      subst (λ t. Offers n capacity holds rows t r qs) is (offers_listed (take len items) (subst (Below n) (sym is) (below_from s n down)) h.distinct r qs puts)
+  pub offers_collected : (s : Numbers) (items : List ℕ) (k : ℕ) → Collected s items k → n ≤ k → ((j : ℕ) → n ≤ j → s j ≡ false)
+      → (r : Reply ℕ) (qs : List Numbers) → Puts n capacity holds rows items r qs → Offers n capacity holds rows s r qs
+  offers_collected s items k h le down r qs puts =
+      let is = collected_all s items k h n le down in
+      subst (λ t. Offers n capacity holds rows t r qs) is (offers_listed items (subst (Below n) (sym is) (below_from s n down)) h.distinct r qs puts)

@@ -2,23 +2,26 @@
 use Rattle.std.proofs.Common.{◌≡◌, ℕ, T, List, [], ◌∷◌, Ok, Err, Result, sym, ap, ◌∙◌, subst, inl, inr, ⊎_elim, arith}
 use mathlib.Core.Path.{fun_ext}
 use lib.Dec.{not_T}
+use Rattle.std.specs.Result.{MatchResult, IsErrAnd}
+use Rattle.std.proofs.lemmas.Result.{err_from_is_err_and}
 use Rattle.sets.specs.Sets.{Numbers, Same, Below}
 use Rattle.systems.specs.States.{up}
 use Rattle.systems.specs.Systems.{Structure, Works, Fails, EachRow, others}
 use Rattle.systems.specs.Duals.{dual}
+use Rattle.systems.specs.Drawings.{WorksIn}
 use Rattle.systems.specs.declared.state.State.{State}
 use Rattle.systems.proofs.Minimal.{within_fails}
 use Rattle.tables.specs.Pasts.{Finer}
 use Rattle.duality.specs.Halves.{Covered, Settled}
 use Rattle.duality.specs.declared.splits.Frame.{Frame}
-use Rattle.completion.specs.Sides.{side_of, Minimals, Tightened}
-use Rattle.completion.specs.Fills.{Adds, Learns, BothTightened}
+use Rattle.completion.specs.Minimals.{Minimals, Tightened}
+use Rattle.completion.specs.Fills.{blocked_at, Adds, paths_block, cuts_block, Learns, BothTightened}
 use Rattle.completion.specs.declared.side.Side.{Side}
 use Rattle.completion.specs.declared.side.Side.TheVariants.{Paths, Cuts}
+use Rattle.completion.specs.declared.fault.Blocked.{Blocked}
 use Rattle.completion.specs.declared.fault.CompletionFault.{CompletionFault}
-use Rattle.completion.specs.declared.fault.CompletionFault.TheVariants.{Pair, NotBorneOut, MoreThanPlaces, CannotHold}
 use Rattle.completion.proofs.Minimality.{finer_refl, finer_trans, works_finer, fails_finer, others_twice}
-use Rattle.completion.proofs.Shrinking.{state_below}
+use Rattle.completion.proofs.Dropping.{state_below}
 
 -- ---- a table that stays
 
@@ -33,39 +36,23 @@ both_trans s t = record { paths = tightened_trans s.paths t.paths; cuts = tighte
 
 -- ---- what `learn` says, from what `add` says
 
-module _ (n a b : ℕ) (holds : Numbers → Type 0) (φ : Structure) (ps cs : List Numbers)
-    (pm : Minimals n a holds (side_of φ Paths) ps) (cm : Minimals n b holds (side_of φ Cuts) cs) (s : Numbers) where
-  pub learns_path : (Works ps s → ⊥) → (r : Result (Unit {0}) CompletionFault) (qs : List Numbers) → Adds n a holds φ Paths ps s r qs → Learns n a b holds φ ps cs r qs cs
-  learns_path new (Ok u) qs h =
-      let t = h new in
-      (record { paths = t.0; cuts = tightened_same cm }, omega (arith, t.1))
-  learns_path new (Err (Pair f)) qs h = absurd h
-  learns_path new (Err (NotBorneOut t i)) qs h = absurd h
-  learns_path new (Err (MoreThanPlaces t)) qs h =
-      let p = h new in
-      subst (λ (u : Side). Learns n a b holds φ ps cs (Err (MoreThanPlaces u)) qs cs) (sym p.0)
-      (subst (λ (q : List Numbers). Learns n a b holds φ ps cs (Err (MoreThanPlaces Paths)) q cs) (sym p.1)
-      (record { paths = tightened_same pm; cuts = tightened_same cm }, p.2))
-  learns_path new (Err (CannotHold t)) qs h =
-      subst (λ (u : Side). Learns n a b holds φ ps cs (Err (CannotHold u)) qs cs) (sym h.0)
-      (subst (λ (q : List Numbers). Learns n a b holds φ ps cs (Err (CannotHold Paths)) q cs) (sym h.1)
-      (record { paths = tightened_same pm; cuts = tightened_same cm }, h.2))
+-- u is r with the side put on
+abbrev pub Sided : Side → Result (Unit {0}) Blocked → Result (Unit {0}) CompletionFault → Type 0
+Sided side r u = MatchResult r (λ x. u ≡ Ok x) (λ w. IsErrAnd u (λ f. f ≡ blocked_at side w))
 
-  pub learns_cut : (Works cs s → ⊥) → (r : Result (Unit {0}) CompletionFault) (ds : List Numbers) → Adds n b holds φ Cuts cs s r ds → Learns n a b holds φ ps cs r ps ds
-  learns_cut new (Ok u) ds h =
-      let t = h new in
-      (record { paths = tightened_same pm; cuts = t.0 }, omega (arith, t.1))
-  learns_cut new (Err (Pair f)) ds h = absurd h
-  learns_cut new (Err (NotBorneOut t i)) ds h = absurd h
-  learns_cut new (Err (MoreThanPlaces t)) ds h =
-      let p = h new in
-      subst (λ (u : Side). Learns n a b holds φ ps cs (Err (MoreThanPlaces u)) ps ds) (sym p.0)
-      (subst (λ (q : List Numbers). Learns n a b holds φ ps cs (Err (MoreThanPlaces Cuts)) ps q) (sym p.1)
-      (record { paths = tightened_same pm; cuts = tightened_same cm }, p.2))
-  learns_cut new (Err (CannotHold t)) ds h =
-      subst (λ (u : Side). Learns n a b holds φ ps cs (Err (CannotHold u)) ps ds) (sym h.0)
-      (subst (λ (q : List Numbers). Learns n a b holds φ ps cs (Err (CannotHold Cuts)) ps q) (sym h.1)
-      (record { paths = tightened_same pm; cuts = tightened_same cm }, h.2))
+module _ (n a b : ℕ) (holds : Numbers → Type 0) (φ : Structure) (ps cs : List Numbers)
+    (pm : Minimals n a holds φ ps) (cm : Minimals n b holds (dual φ) cs) (u : Result (Unit {0}) CompletionFault) where
+  pub learns_path : (r : Result (Unit {0}) Blocked) → Sided Paths r u → (qs : List Numbers) → Adds n a holds φ ps r qs → Learns n a b holds φ ps cs u qs cs
+  learns_path (Ok x) is qs t = rw is (record { paths = t.0; cuts = tightened_same cm }, omega (arith, t.1))
+  learns_path (Err w) is qs h =
+      let e = err_from_is_err_and u is in
+      rw (e.1, e.2, h.0) (record { paths = tightened_same pm; cuts = tightened_same cm }, paths_block w h.1)
+
+  pub learns_cut : (r : Result (Unit {0}) Blocked) → Sided Cuts r u → (ds : List Numbers) → Adds n b holds (dual φ) cs r ds → Learns n a b holds φ ps cs u ps ds
+  learns_cut (Ok x) is ds t = rw is (record { paths = tightened_same pm; cuts = t.0 }, omega (arith, t.1))
+  learns_cut (Err w) is ds h =
+      let e = err_from_is_err_and u is in
+      rw (e.1, e.2, h.0) (record { paths = tightened_same pm; cuts = tightened_same cm }, cuts_block w h.1)
 
 -- ---- a state the other way
 
@@ -74,19 +61,21 @@ pub no_cut_within : (n : ℕ) (cs : List Numbers) → EachRow cs (Below n) → (
 no_cut_within n cs low s b h w = h (subst (λ (v : Numbers). Fails cs v) (others_twice n s b) (within_fails n cs low (others n s) w))
 
 -- where the system does not work, its dual works the other way
-pub dual_bears : (φ : Structure) (s : Numbers) → Below φ.items s → (T (φ.works s) → ⊥) → T ((dual φ).works (others φ.items s))
-dual_bears φ s b h = not_T (φ.works (others φ.items (others φ.items s))) (λ t. h (subst (λ (v : Numbers). T (φ.works v)) (others_twice φ.items s b) t))
+pub dual_works : (φ : Structure) (s : Numbers) → Below φ.items s → (T (φ.works s) → ⊥) → T ((dual φ).works (others φ.items s))
+dual_works φ s b h = not_T (φ.works (others φ.items (others φ.items s))) (λ t. h (subst (λ (v : Numbers). T (φ.works v)) (others_twice φ.items s b) t))
 
 -- f has every item the other way
-module _ (φ : Structure) (n : ℕ) (s f : State) (items : φ.items ≡ n) (count : s.count ≡ n) (marks : Same (up f) (others s.count (up s))) where
+module _ (φ : Structure) (n : ℕ) (s f : State) (items : φ.items ≡ n) (count : s.count ≡ n) (same : f.count ≡ s.count) (marks : Same (up f) (others s.count (up s))) where
   flipped_is : (m : ℕ) → s.count ≡ m → up f ≡ others m (up s)
   flipped_is m e = fun_ext marks ∙ ap (λ (k : ℕ). others k (up s)) e
 
-  pub flipped_bears : (T (φ.works (up s)) → ⊥) → T ((side_of φ Cuts).works (up f))
-  flipped_bears h =
-      let e = count ∙ sym items in
-      subst (λ (v : Numbers). T ((dual φ).works v)) (sym (flipped_is φ.items e))
-      (dual_bears φ (up s) (subst (λ (k : ℕ). Below k (up s)) e (state_below s)) h)
+  pub flipped_works : (T (φ.works (up s)) → ⊥) → WorksIn (dual φ) f
+  flipped_works h =
+      let e = count ∙ sym items in (
+        same ∙ e,
+        subst (λ (v : Numbers). T ((dual φ).works v)) (sym (flipped_is φ.items e))
+            (dual_works φ (up s) (subst (λ (k : ℕ). Below k (up s)) e (state_below s)) h),
+      )
 
   pub flipped_new : (cs : List Numbers) → EachRow cs (Below n) → (Fails cs (up s) → ⊥) → Works cs (up f) → ⊥
   flipped_new cs low h w =

@@ -74,13 +74,6 @@ module _ (φ : Structure) where
     least = λ q h. holds_unless (φ.works (others φ.items q)) (λ f. m.least q h (not_T (φ.works (others φ.items q)) f));
   }
 
-  pub minimal_dual : (c : Numbers) → MinimalCut φ c → MinimalPath (dual φ) c
-  minimal_dual c m = record {
-    items = m.items;
-    works = not_T (φ.works (others φ.items c)) m.stops;
-    least = λ q h f. T_not (φ.works (others φ.items q)) f (m.least q h);
-  }
-
   -- a path and a cut share an item
   pub path_meets_cut : (p c : Numbers) → Below φ.items p → T (φ.works p) → (T (φ.works (others φ.items c)) → ⊥) → Apart c p → ⊥
   path_meets_cut p c low works stops apart =

@@ -6,12 +6,13 @@
 --                       have places, and none that the kind cannot hold
 --   Completes           the reply and the rows after it
 --   Completed           that, DONE exactly when it is possible, and a past again
-use Rattle.std.specs.Prelude.{◌≡◌, ℕ, ◌<◌, ◌≤◌, T, List, [], ◌∷◌, length, Ok, Err, Result, ◌≢◌, slice_index_or}
+use Rattle.std.specs.Prelude.{◌≡◌, ℕ, ◌<◌, ◌≤◌, T, List, [], ◌∷◌, ◌++◌, codes, length, Ok, Err, Result, ◌≢◌, slice_index_or}
+use Rattle.std.specs.Fmt.{decimal}
 use Rattle.sets.specs.Sets.{Numbers, nothing}
 use Rattle.systems.specs.Systems.{Structure, MinimalPath, MinimalCut, EachRow, Lists, others}
 use Rattle.tables.specs.Refusals.{Refusal, Reply, answered, refused, reply}
 use Rattle.tables.specs.Pasts.{Past, Improved}
-use Rattle.duality.specs.Pairs.{pair_refusal}
+use Rattle.duality.specs.Pairs.{pair_refusal, pair_text}
 use Rattle.completion.specs.Fills.{AtMost}
 use Rattle.completion.specs.declared.side.Side.{Side}
 use Rattle.completion.specs.declared.side.Side.TheVariants.{Paths, Cuts}
@@ -22,11 +23,22 @@ abbrev pub side_number : Side → ℕ
 side_number Paths = 0
 side_number Cuts = 1
 
+abbrev pub side_word : Side → List ℕ
+side_word Paths = codes "paths"
+side_word Cuts = codes "cuts"
+
 abbrev pub completion_refusal : CompletionFault → Refusal
 completion_refusal (Pair fault) = pair_refusal fault
 completion_refusal (NotBorneOut side row) = record { number = 9; values = side_number side ∷ row ∷ [] }
 completion_refusal (MoreThanPlaces side) = record { number = 10; values = side_number side ∷ [] }
 completion_refusal (CannotHold side) = record { number = 11; values = side_number side ∷ [] }
+
+-- what a refusal says, with its values
+abbrev pub completion_text : CompletionFault → List ℕ
+completion_text (Pair fault) = pair_text fault
+completion_text (NotBorneOut side row) = codes "row " ++ decimal row ++ codes " of the " ++ side_word side ++ codes " is not borne out"
+completion_text (MoreThanPlaces side) = codes "more minimal " ++ side_word side ++ codes " than places"
+completion_text (CannotHold side) = codes "minimal " ++ side_word side ++ codes " that cannot be held"
 
 abbrev pub completion_reply : {Answer : Type 0} → Result Answer CompletionFault → Reply Answer
 completion_reply = reply completion_refusal

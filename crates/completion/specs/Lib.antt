@@ -1,4 +1,4 @@
-pub mod Sides
+pub mod Minimals
 pub mod Offers
 pub mod Fills
 pub mod Completions

@@ -5,6 +5,7 @@ ghost use Rattle.tables.specs.Pasts.{Past};
 ghost use Rattle.tables.specs.Tables.{Holds, Kept, Unchanged};
 ghost use Rattle.completion.specs.Completions.{Counts, Completed, Untouched, completion_reply};
 
+use crate::dual::Dual;
 use crate::fault::CompletionFault;
 use crate::filling::fill;
 use crate::side::Side;
@@ -29,15 +30,16 @@ pub fn complete<K: SetKind, D: Drawing>(
     let n = check_pair(paths, cuts)?;
     let m = drawing.item_count();
     if m != n {
-        return Err(CompletionFault::Pair(PairFault::CountsDiffer(n, m)));
+        return Err(PairFault::CountsDiffer(n, m).into());
     }
-    if let Some(row) = first_unborne(paths, drawing, Side::Paths) {
+    let dual = Dual { drawing };
+    if let Some(row) = first_unborne(paths, drawing) {
         return Err(CompletionFault::NotBorneOut(Side::Paths, row));
     }
-    if let Some(row) = first_unborne(cuts, drawing, Side::Cuts) {
+    if let Some(row) = first_unborne(cuts, &dual) {
         return Err(CompletionFault::NotBorneOut(Side::Cuts, row));
     }
-    tighten(paths, drawing, Side::Paths);
-    tighten(cuts, drawing, Side::Cuts);
+    tighten(paths, drawing);
+    tighten(cuts, &dual);
     fill(paths, cuts, drawing)
 }

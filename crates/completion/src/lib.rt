@@ -1,11 +1,12 @@
 // Both tables of a figure filled from its drawing.
 #![tactic(auto)]
 
-pub mod bearing;
 pub mod completing;
+pub mod dual;
 pub mod fault;
 pub mod filling;
 pub mod offering;
+pub mod shrinking;
 pub mod side;
 pub mod tightening;
 

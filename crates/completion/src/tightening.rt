@@ -1,55 +1,75 @@
 // Rows that give way to minimal ones.
-ghost use Rattle.std.specs.Prelude.{◌≡◌, ℕ, ◌≤◌, List, map, MatchOption};
-ghost use Rattle.sets.specs.Sets.{Numbers};
+ghost use Rattle.std.specs.Prelude.{◌≡◌, ℕ, ◌<◌, ◌≤◌, List, length, slice_index_or, MatchOption};
+ghost use Rattle.sets.specs.Sets.{Numbers, nothing, Below};
+ghost use Rattle.systems.specs.States.{up};
+ghost use Rattle.systems.specs.Systems.{MinimalPath, ProperSubset, EachRow};
 ghost use Rattle.tables.specs.Rows.{Sound};
 ghost use Rattle.tables.specs.Tables.{Holds, Kept};
-ghost use Rattle.completion.specs.Sides.{side_of, AllBorne, FirstUnborne, Tightened};
+ghost use Rattle.completion.specs.Minimals.{Smaller, Tightened};
+ghost use Rattle.completion.specs.Offers.{Replaced};
+ghost use Rattle.completion.specs.Completions.{PathBorne, FirstNot};
 
-use crate::bearing::{bears, shrink};
 use crate::offering::offer;
-use crate::side::Side;
+use crate::shrinking::shrink;
 use sets::SetKind;
-use systems::{Drawing, all_up, alone_up};
+use systems::{Drawing, State, all_up, alone_up};
 use tables::Table;
 
-// The first row that the drawing does not bear out.
-pub(crate) fn first_unborne<K: SetKind, D: Drawing>(
-    table: &Table<K>,
-    drawing: &D,
-    side: Side,
-) -> Option<usize>
-    ensures { (n : ℕ) (ps : List Numbers) → Holds K.mem table.now n ps → Sound n table.now.capacity K.holds ps → (D.means drawing.now).items ≡ n → MatchOption result (AllBorne (side_of (D.means drawing.now) side) ps) (FirstUnborne (side_of (D.means drawing.now) side) ps) }
+// Whether the drawing works with the set of a row alone up.
+fn bears_out<K: SetKind, D: Drawing>(drawing: &D, set: &K) -> bool
+    ensures { (D.means drawing.now).items ≤ 256 → Below (D.means drawing.now).items (K.mem set.now) → result ≡ (D.means drawing.now).works (K.mem set.now) }
 {
-    let n = table.item_count();
-    for (i, row) in table.rows().iter().enumerate() {
-        if !bears(drawing, side, &alone_up(n, row.set())) {
-            return Some(i);
-        }
+    drawing.works(&alone_up(drawing.item_count(), set))
+}
+
+// The first row that the drawing does not bear out.
+pub(crate) fn first_unborne<K: SetKind, D: Drawing>(table: &Table<K>, drawing: &D) -> Option<usize>
+    ensures { (n : ℕ) (ps : List Numbers) → Holds K.mem table.now n ps → Sound n table.now.capacity K.holds ps → (D.means drawing.now).items ≡ n → MatchOption result (EachRow ps (PathBorne (D.means drawing.now))) (FirstNot (PathBorne (D.means drawing.now)) ps) }
+{
+    table
+        .rows()
+        .iter()
+        .position(|row| !bears_out(drawing, row.set()))
+}
+
+// A minimal set that is less than the set of a row, unless that is minimal itself.
+fn smaller<K: SetKind, D: Drawing>(drawing: &D, set: &K) -> Option<State>
+    ensures { (D.means drawing.now).items ≤ 256 → Below (D.means drawing.now).items (K.mem set.now) → PathBorne (D.means drawing.now) (K.mem set.now) → MatchOption result (MinimalPath (D.means drawing.now) (K.mem set.now)) (Smaller (D.means drawing.now) (K.mem set.now)) }
+{
+    let least = shrink(drawing, &alone_up(drawing.item_count(), set));
+    if all_up(set, &least) {
+        None
+    } else {
+        Some(least)
     }
-    None
+}
+
+// Puts a set that is less than the row, which removes the row; where another row lies within the set, the row is struck.
+fn replace<K: SetKind>(table: &mut Table<K>, row: usize, set: &State)
+    ensures kept { Kept table.old table.new }
+    ensures replaces { (n : ℕ) (ps : List Numbers) → 1 ≤ n → Holds K.mem table.old n ps → Sound n table.old.capacity K.holds ps → set.now.count ≡ n → row < length ps → ProperSubset (up set.now) (slice_index_or ps row nothing) → (qs : List Numbers) × Holds K.mem table.new n qs × Replaced n table.old.capacity K.holds ps row (up set.now) qs }
+{
+    if offer(table, set).is_err() {
+        // the row is there where the premises of `replaces` hold, and elsewhere nothing is promised
+        let _ = table.strike(row);
+    }
 }
 
 // Each row gives way to a minimal one within it, and rows that come out twice stay once.
-pub(crate) fn tighten<K: SetKind, D: Drawing>(table: &mut Table<K>, drawing: &D, side: Side)
+pub(crate) fn tighten<K: SetKind, D: Drawing>(table: &mut Table<K>, drawing: &D)
     ensures kept { Kept table.old table.new }
-    ensures tightens { (n : ℕ) (ps : List Numbers) → 1 ≤ n → Holds K.mem table.old n ps → Sound n table.old.capacity K.holds ps → (D.means drawing.now).items ≡ n → AllBorne (side_of (D.means drawing.now) side) ps → (qs : List Numbers) × Holds K.mem table.new n qs × Tightened n table.old.capacity K.holds (side_of (D.means drawing.now) side) ps qs }
+    ensures tightens { (n : ℕ) (ps : List Numbers) → 1 ≤ n → Holds K.mem table.old n ps → Sound n table.old.capacity K.holds ps → (D.means drawing.now).items ≡ n → EachRow ps (PathBorne (D.means drawing.now)) → (qs : List Numbers) × Holds K.mem table.new n qs × Tightened n table.old.capacity K.holds (D.means drawing.now) ps qs }
 {
-    let n = table.item_count();
-    // the rows before `at` and from `end` on are minimal
+    // the rows before `at` are minimal, and each turn passes by a row or removes one that was there; by its number, since the table changes
     let mut at = 0;
-    let mut end = table.row_count();
-    while at < end {
+    for _turn in 0..table.row_count() {
         let Ok(set) = table.row(at) else {
             return;
         };
-        let least = shrink(drawing, side, &alone_up(n, set));
-        if all_up(set, &least) {
-            at += 1;
-        } else if let Ok(removed) = offer(table, &least) {
-            end = end.saturating_sub(removed.max(1));
+        if let Some(least) = smaller(drawing, set) {
+            replace(table, at, &least);
         } else {
-            let _ = table.strike(at);
-            end -= 1;
+            at += 1;
         }
     }
 }

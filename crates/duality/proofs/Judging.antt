@@ -1,5 +1,5 @@
 -- What an audit may say, from what its parts found.
-use Rattle.std.proofs.Common.{◌≡◌, ℕ, ◌<◌, ◌≤◌, T, List, length, get_or, sym, refl, ◌∙◌, subst, ⊎_elim, arith}
+use Rattle.std.proofs.Common.{◌≡◌, ℕ, ◌<◌, ◌≤◌, T, List, length, get_or, Some, None, Option, MatchOption, sym, refl, ◌∙◌, subst, ⊎_elim, arith}
 use Rattle.std.proofs.lemmas.Bool.{cases_lt}
 use Rattle.sets.specs.Sets.{Numbers, nothing, Within, Below}
 use Rattle.systems.specs.States.{up}
@@ -61,6 +61,11 @@ module _ (n : ℕ) (ps cs : List Numbers) where
     same = λ same. refl;
     both = λ t b h. never_doubled ps cs meet t h.0 h.1;
   }
+
+  -- what a search found that leaves nothing behind it
+  pub audited_found : (o : Option State) (v : Verdict) {B : Type 0} → B → MatchOption o (B → AllCovered n ps cs) (MissedState n ps cs) → AllMeet ps cs → (o ≡ None → v ≡ Same) → ((s : State) → o ≡ Some s → v ≡ Miss s) → Audited n ps cs v
+  audited_found None v b h meet same miss = subst (Audited n ps cs) (sym (same refl)) (audited_same (h b) meet)
+  audited_found (Some s) v b h meet same miss = subst (Audited n ps cs) (sym (miss s refl)) (audited_miss s h meet)
 
 -- the rows as they are read, and as they are reckoned
 pub audited_at : (n : ℕ) (ps qs cs ds : List Numbers) (v : Verdict) → ps ≡ qs → cs ≡ ds → Audited n ps cs v → Audited n qs ds v

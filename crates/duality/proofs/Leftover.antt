@@ -1,5 +1,5 @@
 -- Whether any row is left in a half.
-use Rattle.std.proofs.Common.{◌≡◌, ℕ, zero, suc, ◌<◌, Bool, true, false, cond, List, [], ◌∷◌, map, length, get_or, filter, sym, refl, ◌∙◌, subst, arith}
+use Rattle.std.proofs.Common.{◌≡◌, ℕ, zero, suc, ◌<◌, Bool, true, false, cond, List, [], ◌∷◌, length, get_or, filter, sym, refl, ◌∙◌, subst, arith}
 use Rattle.sets.specs.Sets.{Numbers, nothing, Below}
 use Rattle.sets.proofs.Deciding.{decides_within}
 use Rattle.systems.specs.Systems.{Works, Fails, EachRow}
@@ -35,9 +35,3 @@ module _ (rows : List Numbers) (low : EachRow rows (Below 256)) (s : Numbers) wh
   pub no_cut_left : length (left_cuts rows s) ≡ 0 → Fails rows s → ⊥
   unfolding left_cuts is_apart
   no_cut_left e w = kept_none (λ p. is_apart p s) rows e w.row w.there ((decides_apart 256 (get_or rows w.row nothing) s (low w.row w.there)).1 w.down)
-
--- rows of a kind lie below 256
-pub rows_below : {X : Type 0} (mem : X → Numbers) → ((x : X) → Below 256 (mem x)) → (xs : List X) → EachRow (map mem xs) (Below 256)
-rows_below mem low [] i h = absurd (omega arith)
-rows_below mem low (x ∷ xs) zero h = low x
-rows_below mem low (x ∷ xs) (suc i) h = rows_below mem low xs i (omega arith)

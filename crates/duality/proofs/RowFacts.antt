@@ -1,8 +1,16 @@
 -- The rows of a list by their places.
-use Rattle.std.proofs.Common.{◌≡◌, ℕ, ◌+◌, ◌<◌, ◌≤◌, List, map, length, get_or, sym, ap, ◌∙◌, subst, arith, below_more}
+use Rattle.std.proofs.Common.{◌≡◌, ℕ, zero, suc, ◌<◌, ◌≤◌, Bool, true, false, ◌||◌, List, [], ◌∷◌, map, length, get_or, sym, refl, ap, ◌∙◌, subst, arith}
+use Rattle.std.specs.Prelude.{Option, Some, None, Decides, MatchOption}
+use Rattle.std.specs.List.{list_any, AllWithin, HoldsAt}
+use Rattle.std.proofs.lemmas.Bool.{false≢true}
 use Rattle.std.proofs.lemmas.List.{get_or-map, length-map}
-use Rattle.sets.specs.Sets.{Numbers, nothing, Within, Apart}
-use Rattle.systems.specs.Systems.{Works, Fails}
+use Rattle.std.proofs.lemmas.Bool.Decides.{same_from_decides}
+use Rattle.sets.specs.Sets.{Numbers, nothing, Within, Apart, Below, within_below}
+use Rattle.sets.proofs.Deciding.{decides_within}
+use Rattle.systems.proofs.Tables.{apart_below, decides_apart}
+use Rattle.duality.specs.Shares.{is_within, is_apart}
+use Rattle.duality.specs.RowsOf.{IsRow}
+use Rattle.systems.specs.Systems.{Works, Fails, EachRow}
 use Rattle.tables.specs.Memory.{meant}
 use Rattle.tables.specs.declared.row.Row.{Row}
 
@@ -11,21 +19,80 @@ module _ {X : Type 0} (mem : X → Numbers) (xs : List (Row X)) (i : ℕ) (x : R
   pub row_is : get_or (map (meant mem) xs) i nothing ≡ mem y
   row_is = get_or-map (meant mem) xs i x nothing lt ∙ ap (meant mem) (sym is) ∙ ap mem (sym its)
 
-  pub works_at : (s : Numbers) → Within (mem y) s → Works (map (meant mem) xs) s
-  works_at s w = record { row = i; there = simp length-map lt; up = subst (λ (v : Numbers). Within v s) (sym row_is) w }
+-- ---- the tests of sets that lie below 256
+pub below_most : (top : ℕ) (s : Numbers) → top ≤ 256 → Below top s → Below 256 s
+below_most top s small low k t = omega (arith, low k t)
 
-  pub fails_at : (s : Numbers) → Apart (mem y) s → Fails (map (meant mem) xs) s
-  fails_at s a = record { row = i; there = simp length-map lt; down = subst (λ (v : Numbers). Apart v s) (sym row_is) a }
+pub tested_within : (r s : Numbers) → Below 256 r → (b : Bool) → Decides b (Within r s) → is_within r s ≡ b
+unfolding is_within
+tested_within r s low b d = same_from_decides (within_below 256 r s) b (decides_within 256 r s low) d
 
-  -- no row before place i is such, nor is the row there
-  pub none_more : (P : Numbers → Type 0) → ((j : ℕ) → j < i → P (get_or (map (meant mem) xs) j nothing) → ⊥) → (P (mem y) → ⊥) → (j : ℕ) → j < i + 1 → P (get_or (map (meant mem) xs) j nothing) → ⊥
-  none_more P before here =
-      below_more (λ j. P (get_or (map (meant mem) xs) j nothing) → ⊥) i before (λ p. here (subst P row_is p))
+pub tested_apart : (r s : Numbers) → Below 256 r → (b : Bool) → Decides b (Apart r s) → is_apart r s ≡ b
+unfolding is_apart
+tested_apart r s low b d = same_from_decides (apart_below 256 r s) b (decides_apart 256 r s low) d
 
--- none of the n places, which are all, has such a row
-module _ {X : Type 0} (f : X → Numbers) (xs : List X) (n : ℕ) (all : length xs ≤ n) (s : Numbers) where
-  pub not_works : ((j : ℕ) → j < n → Within (get_or (map f xs) j nothing) s → ⊥) → Works (map f xs) s → ⊥
-  not_works none w = let t = simp length-map at w.there in none w.row (omega arith) w.up
+-- ---- what `any` finds among the rows, by a test of what they mean
 
-  pub not_fails : ((j : ℕ) → j < n → Apart (get_or (map f xs) j nothing) s → ⊥) → Fails (map f xs) s → ⊥
-  not_fails none w = let t = simp length-map at w.there in none w.row (omega arith) w.down
+-- one of the rows passes
+pub record Passing {X : Type 0} (f : X → Numbers) (xs : List X) (test : Numbers → Bool) : Type 0 where
+  pub row : ℕ
+  pub there : row < length (map f xs)
+  pub passes : test (get_or (map f xs) row nothing) ≡ true
+
+passing_more : {X : Type 0} {f : X → Numbers} {x : X} {xs : List X} {test : Numbers → Bool} → Passing f xs test → Passing f (x ∷ xs) test
+passing_more p = record { row = suc p.row; there = omega (arith, p.there); passes = p.passes }
+
+passing_rest : {X : Type 0} (f : X → Numbers) (x : X) (xs : List X) (test : Numbers → Bool) → test (f x) ≡ false → Passing f (x ∷ xs) test → Passing f xs test
+passing_rest f x xs test e p = go p.row p.there p.passes where
+  go : (i : ℕ) → i < suc (length (map f xs)) → test (get_or (f x ∷ map f xs) i nothing) ≡ true → Passing f xs test
+  go zero lt h = absurd (false≢true (sym e ∙ h))
+  go (suc i) lt h = record { row = i; there = omega arith; passes = h }
+
+pub decides_any : {X : Type 0} (f : X → Numbers) (xs : List X) (test : Numbers → Bool) → Decides (list_any (λ x. test (f x)) xs) (Passing f xs test)
+decides_any f [] test = ((λ e. absurd (false≢true e)), λ p. absurd (omega (arith, p.there)))
+decides_any f (x ∷ xs) test = go (decides_any f xs test) (test (f x)) refl where
+  go : Decides (list_any (λ y. test (f y)) xs) (Passing f xs test) → (b : Bool) → test (f x) ≡ b → Decides (b || list_any (λ y. test (f y)) xs) (Passing f (x ∷ xs) test)
+  go d true e = ((λ _. record { row = 0; there = omega arith; passes = e }), λ _. refl)
+  go d false e = ((λ h. passing_more (d.0 h)), λ p. d.1 (passing_rest f x xs test e p))
+
+-- rows of a kind lie below 256
+pub rows_below : {X : Type 0} (mem : X → Numbers) → ((x : X) → Below 256 (mem x)) → (xs : List X) → EachRow (map mem xs) (Below 256)
+rows_below mem low [] i h = absurd (omega arith)
+rows_below mem low (x ∷ xs) zero h = low x
+rows_below mem low (x ∷ xs) (suc i) h = rows_below mem low xs i (omega arith)
+
+module _ {X : Type 0} (f : X → Numbers) (xs : List X) (low : (x : X) → Below 256 (f x)) (s : Numbers) where
+  low_at : (i : ℕ) → i < length (map f xs) → Below 256 (get_or (map f xs) i nothing)
+  low_at i lt = rows_below f low xs i lt
+
+  pub decides_works : (r : Bool) → r ≡ list_any (λ x. is_within (f x) s) xs → Decides r (Works (map f xs) s)
+  unfolding is_within
+  decides_works r e =
+      let d = subst (λ (b : Bool). Decides b (Passing f xs (λ v. is_within v s))) (sym e) (decides_any f xs (λ v. is_within v s)) in (
+        (λ e. let p = d.0 e in record { row = p.row; there = p.there; up = (decides_within 256 _ s (low_at p.row p.there)).0 p.passes }),
+        λ w. d.1 (record { row = w.row; there = w.there; passes = (decides_within 256 _ s (low_at w.row w.there)).1 w.up }),
+      )
+
+  pub decides_fails : (r : Bool) → r ≡ list_any (λ x. is_apart (f x) s) xs → Decides r (Fails (map f xs) s)
+  unfolding is_apart
+  decides_fails r e =
+      let d = subst (λ (b : Bool). Decides b (Passing f xs (λ v. is_apart v s))) (sym e) (decides_any f xs (λ v. is_apart v s)) in (
+        (λ e. let p = d.0 e in record { row = p.row; there = p.there; down = (decides_apart 256 _ s (low_at p.row p.there)).0 p.passes }),
+        λ w. d.1 (record { row = w.row; there = w.there; passes = (decides_apart 256 _ s (low_at w.row w.there)).1 w.down }),
+      )
+
+-- ---- what `find` finds among the rows
+at_map : {X : Type 0} (f : X → Numbers) (xs : List X) (P : Numbers → Type 0) (k : ℕ) → k < length xs → HoldsAt (λ x. P (f x)) xs k → P (get_or (map f xs) k nothing)
+at_map f [] P k lt h = absurd (omega arith)
+at_map f (x ∷ xs) P k lt h = subst P (sym (get_or-map f (x ∷ xs) k x nothing lt)) (h x)
+
+pub found_row : {X A : Type 0} (f : X → Numbers) (v : A → X) (xs : List X) (P : Numbers → Type 0) (o : Option A) → MatchOption o (AllWithin (λ x. P (f x) → ⊥) xs 0 (length xs)) (λ a. P (f (v a)) × (i : ℕ) × (i < length xs) × HoldsAt (λ y. y ≡ v a) xs i × AllWithin (λ x. P (f x) → ⊥) xs 0 i) → MatchOption o (EachRow (map f xs) (λ p. P p → ⊥)) (λ a. IsRow f xs (v a) × P (f (v a)))
+found_row f v xs P None all = λ i lt. let l : i < length xs = simp length-map at lt in at_map f xs (λ p. P p → ⊥) i l (λ d. all i d (omega arith) l)
+found_row f v xs P (Some a) h = (
+  record {
+    row = h.1;
+    there = simp length-map h.2;
+    means = at_map f xs (λ p. p ≡ f (v a)) h.1 h.2 (λ d. ap f (h.3 d));
+  },
+  h.0,
+)

@@ -38,9 +38,3 @@ stacked_turn d fs g f rest h l e t =
     let i : f ≡ get_or fs (d - 1) no_frame = cc in
     let j : turned f ≡ turned (get_or fs (d - 1) no_frame) = ap turned i in
     cc
-
-pub stacked_pop : (d : ℕ) (fs : List Frame) (f : Frame) (rest : List Frame) → 0 < d → stacked d fs ≡ f ∷ rest → stacked (d - 1) fs ≡ rest
-stacked_pop d fs f rest h e = let a = stacked_last d fs h in cc
-
-pub some_stacked : (d : ℕ) (fs : List Frame) → 0 < length (stacked d fs) → 0 < d
-some_stacked d fs h = simp length_stacked at h

@@ -3,3 +3,4 @@ pub mod Verdicts
 pub mod Shares
 pub mod Halves
 pub mod Searches
+pub mod RowsOf

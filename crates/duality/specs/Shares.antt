@@ -29,6 +29,10 @@ having rows k = length (filter (λ r. r k) rows)
 abbrev pub share : List Numbers → List Numbers → ℕ → ℕ
 share paths cuts k = max (having paths k * length cuts) (having cuts k * length paths)
 
+-- the share of an item, by two tallies
+unfoldable pub share_of : Tally → Tally → ℕ → ℕ
+share_of paths cuts k = max (slice_index paths.having k * cuts.rows) (slice_index cuts.having k * paths.rows)
+
 pub record Chosen (paths cuts : List Numbers) (low high : Numbers) (k : ℕ) : Type 0 where
   pub not_up : low k ≡ false
   pub not_down : high k ≡ true

@@ -1,14 +1,16 @@
 // The audit of a path table and a cut table.
-ghost use Rattle.std.specs.Prelude.{◌≡◌, ℕ, ◌<◌, ◌≤◌, List, map, length, IfOk, Decides, MatchOption, MatchResult, slice_index_or};
-ghost use Rattle.sets.specs.Sets.{Numbers, nothing};
-ghost use Rattle.systems.specs.Systems.{Fails};
+ghost use Rattle.std.specs.Prelude.{◌≡◌, ℕ, List, map, IfOk, Decides, MatchOption, MatchResult};
+ghost use Rattle.sets.specs.Sets.{Numbers};
+ghost use Rattle.systems.specs.Systems.{EachRow, Fails};
 ghost use Rattle.tables.specs.Memory.{meant};
 ghost use Rattle.tables.specs.Pasts.{Past};
 ghost use Rattle.tables.specs.Tables.{Holds};
 ghost use Rattle.duality.specs.Pairs.{Pairs, checked};
 ghost use Rattle.duality.specs.Verdicts.{Audited};
+ghost use Rattle.duality.specs.RowsOf.{IsRow};
 
 use crate::fault::PairFault;
+use crate::rows::some_apart;
 use crate::search::Search;
 use crate::verdict::Verdict;
 use sets::SetKind;
@@ -34,28 +36,14 @@ pub fn check_pair<K: SetKind>(paths: &Table<K>, cuts: &Table<K>) -> Result<usize
     Ok(n)
 }
 
-// Whether some cut has no item of the set.
-pub(crate) fn some_apart<K: SetKind>(set: &K, cuts: &[Row<K>]) -> bool
-    ensures { Decides result (Fails (map (meant K.mem) cuts.now) (K.mem set.now)) }
-{
-    for cut in cuts {
-        if cut.set().apart(set) {
-            return true;
-        }
-    }
-    false
-}
-
 // The first path with which some cut has no common item.
-pub(crate) fn first_apart<K: SetKind>(paths: &[Row<K>], cuts: &[Row<K>]) -> Option<usize>
-    ensures { MatchOption result ((i : ℕ) → i < length paths.now → Fails (map (meant K.mem) cuts.now) (slice_index_or (map (meant K.mem) paths.now) i nothing) → ⊥) (λ i. (i < length paths.now) × Fails (map (meant K.mem) cuts.now) (slice_index_or (map (meant K.mem) paths.now) i nothing)) }
+pub(crate) fn first_apart<'p, K: SetKind>(
+    paths: &'p [Row<K>],
+    cuts: &[Row<K>],
+) -> Option<&'p Row<K>>
+    ensures { MatchOption result (EachRow (map (meant K.mem) paths.now) (λ p. Fails (map (meant K.mem) cuts.now) p → ⊥)) (λ path. IsRow (meant K.mem) paths.now path.now × Fails (map (meant K.mem) cuts.now) (meant K.mem path.now)) }
 {
-    for (i, path) in paths.iter().enumerate() {
-        if some_apart(path.set(), cuts) {
-            return Some(i);
-        }
-    }
-    None
+    paths.iter().find(|path| some_apart(path, cuts))
 }
 
 // Whether both tables describe the same system; else a state that both cover, or one that neither covers.
@@ -66,12 +54,9 @@ pub fn audit<K: SetKind>(paths: &Table<K>, cuts: &Table<K>) -> Result<Verdict, P
     let n = check_pair(paths, cuts)?;
     let path_rows = paths.rows();
     let cut_rows = cuts.rows();
-    if let Some(i) = first_apart(path_rows, cut_rows) {
-        return Ok(Verdict::Both(alone_up(n, path_rows[i].set())));
+    if let Some(path) = first_apart(path_rows, cut_rows) {
+        return Ok(Verdict::Both(alone_up(n, path.set())));
     }
-    let mut search = Search::new(n);
-    match search.next_missed(path_rows, cut_rows) {
-        Some(state) => Ok(Verdict::Miss(state)),
-        None => Ok(Verdict::Same),
-    }
+    let missed = Search::new(n).next_missed(path_rows, cut_rows);
+    Ok(missed.map_or(Verdict::Same, Verdict::Miss))
 }

@@ -1,22 +1,22 @@
 // How many of some rows there are, and how many of them have each item.
-ghost use Rattle.std.specs.Prelude.{◌≡◌, ℕ, ◌+◌, ◌^◌, ◌<◌, ◌≤◌, List, [], ◌∷◌, ◌++◌, map, slice_index};
+ghost use Rattle.std.specs.Prelude.{◌≡◌, ℕ, ◌+◌, ◌^◌, ◌<◌, ◌≤◌, Bool, List, [], ◌∷◌, ◌++◌, map, filter, slice_index};
+ghost use Rattle.std.specs.Fn.{FnReturnsAt};
 ghost use Rattle.sets.specs.Sets.{Numbers};
-ghost use Rattle.systems.specs.States.{up};
 ghost use Rattle.tables.specs.Memory.{meant};
-ghost use Rattle.duality.specs.Shares.{Tallied, left_paths, left_cuts};
+ghost use Rattle.tables.specs.declared.row.Row.{Row};
+ghost use Rattle.duality.specs.Shares.{Tallied};
 
 use sets::SetKind;
-use systems::{State, all_down, all_up};
 use tables::Row;
 
 #[derive(Clone, Copy)]
 pub struct Tally {
     pub(crate) rows: usize,
-    pub(crate) having: [usize; 256],
+    having: [usize; 256],
 }
 
 impl Tally {
-    pub(crate) fn new() -> Tally
+    fn new() -> Tally
         ensures { Tallied [] result }
     {
         Tally {
@@ -25,43 +25,36 @@ impl Tally {
         }
     }
 
+    // The tally of the rows that `is_left` takes.
+    pub(crate) fn of<K: SetKind, F: Fn(&Row<K>) -> bool>(rows: &[Row<K>], is_left: F) -> Tally
+        requires { F.IsAlwaysCallable is_left }
+        ensures { (test : Numbers → Bool) → ((row : Row K) (b : Bool) → FnReturnsAt F.Fn is_left row b → b ≡ test (meant K.mem row)) → Tallied (filter test (map (meant K.mem) rows.now)) result }
+    {
+        let mut tally = Tally::new();
+        for row in rows {
+            if is_left(row) {
+                tally.add(row.set());
+            }
+        }
+        tally
+    }
+
+    // How many of them have the item.
+    pub(crate) fn having(&self, item: usize) -> usize
+        ensures { result ≡ slice_index self.now.having item }
+    {
+        self.having.get(item).copied().unwrap_or(0)
+    }
+
     // One row more.
-    pub(crate) fn add<K: SetKind>(&mut self, set: &K)
+    fn add<K: SetKind>(&mut self, set: &K)
         requires few { self.old.rows + 1 < 2 ^ 64 }
         requires each { (k : ℕ) → slice_index self.old.having k ≤ self.old.rows }
         ensures { (rows : List Numbers) → Tallied rows self.old → Tallied (rows ++ K.mem set.now ∷ []) self.new }
     {
-        let mut at = 0;
-        while let Some(item) = set.next(at) {
+        for item in set.members() {
             self.having[item] += 1;
-            at = item + 1;
         }
         self.rows += 1;
     }
-}
-
-// Of the paths that have no item down.
-pub(crate) fn tally_paths<K: SetKind>(paths: &[Row<K>], high: &State) -> Tally
-    ensures { Tallied (left_paths (map (meant K.mem) paths.now) (up high.now)) result }
-{
-    let mut tally = Tally::new();
-    for row in paths {
-        if all_up(row.set(), high) {
-            tally.add(row.set());
-        }
-    }
-    tally
-}
-
-// Of the cuts that have no item up.
-pub(crate) fn tally_cuts<K: SetKind>(cuts: &[Row<K>], low: &State) -> Tally
-    ensures { Tallied (left_cuts (map (meant K.mem) cuts.now) (up low.now)) result }
-{
-    let mut tally = Tally::new();
-    for row in cuts {
-        if all_down(row.set(), low) {
-            tally.add(row.set());
-        }
-    }
-    tally
 }

@@ -1,9 +1,11 @@
 // What an audit says.
-ghost use Rattle.duality.specs.Verdicts.{Shows};
+ghost use Rattle.std.specs.Prelude.{Some};
+ghost use Rattle.duality.specs.Verdicts.{Shows, verdict_word};
 
+use std::fmt;
 use systems::State;
 
-#[derive(Clone, Copy)]
+#[derive(Clone, Copy, Debug, PartialEq, Eq)]
 pub enum Verdict {
     // both tables describe the same system
     Same,
@@ -20,8 +22,20 @@ impl Verdict {
     {
         match *self {
             Verdict::Same => State::new(0),
-            Verdict::Miss(state) => state,
-            Verdict::Both(state) => state,
+            Verdict::Miss(state) | Verdict::Both(state) => state,
+        }
+    }
+}
+
+// The word for it.
+impl fmt::Display for Verdict {
+    ghost output = { λ verdict. Some (verdict_word verdict) };
+
+    fn fmt<W: fmt::Write>(&self, f: &mut fmt::Formatter<W>) -> fmt::Result {
+        match self {
+            Verdict::Same => write!(f, "SAME"),
+            Verdict::Miss(_) => write!(f, "MISS"),
+            Verdict::Both(_) => write!(f, "BOTH"),
         }
     }
 }

@@ -1,4 +1,5 @@
 pub mod Deciding
 pub mod Bitwise
 pub mod WordLaws
-pub mod Putting
+pub mod Lists
+pub mod Remaining

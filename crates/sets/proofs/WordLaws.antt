@@ -1,12 +1,12 @@
 -- What each method of the word kind owes, over plain numbers.
-use Rattle.std.proofs.Common.{◌≡◌, ℕ, ◌-◌, ◌/◌, ◌^◌, ◌<◌, ◌≤◌, Bool, true, false, not, ◌&&◌, ◌||◌, T, eqb, ltb, leb, ◌≢◌, Decides, sym, refl, ap, ◌∙◌, subst, ap₂, inl, inr, mod-eq_of_lt, arith, le→leb, ltb→lt, leb→le}
+use Rattle.std.proofs.Common.{Option, None, Some, MatchOption, IfSome, is_some, ◌≡◌, ℕ, ◌-◌, ◌/◌, ◌^◌, ◌<◌, ◌≤◌, Bool, true, false, not, ◌&&◌, ◌||◌, T, eqb, ltb, leb, ◌≢◌, Decides, sym, refl, ap, ◌∙◌, subst, ap₂, inl, inr, mod-eq_of_lt, arith, le→leb, ltb→lt, leb→le}
 use lib.Bits.{bit_and, bit_or, and_mask, and_le_l}
 use lib.Count.{ones, count_trailing_zeros}
 use Rattle.sets.specs.Sets.{Numbers, with, without, Within, Apart, Same, Below, count, Lowest, NoneFrom}
 use Rattle.sets.specs.Words.{bit, word_set}
 use Rattle.sets.specs.Counts.{count_same}
 use Rattle.sets.proofs.Bitwise.{bit_of_and, bit_of_or, bit_single, bit_not, bits_same, bit_past, trailing_low, trailing_here, trailing_some, count_bits}
-use Rattle.std.proofs.lemmas.Bool.{eq-eqb, ne_eqb, eqb-true, lt-ltb, le-ltb, cases_lt}
+use Rattle.std.proofs.lemmas.Bool.{eq-eqb, ne_eqb, eqb-true, eqb-false, not-true, not-false, lt-ltb, le-ltb, cases_lt}
 use Rattle.sets.specs.Truth.{holds_true, true_holds, and_T, T_and}
 use Rattle.std.proofs.lemmas.Nat.{pow_below, pow_pos}
 
@@ -107,10 +107,10 @@ module _ (a k m : ℕ) (ha : a < 2 ^ 64) (hm : m < 2 ^ 64) (is : (j : ℕ) → j
       let h : j < 64 = ltb→lt j 64 p.0 in
       subst T (sym (is j h) ∙ e) (T_and (bit a j) (leb k j) p.1 (le→leb k j l))
 
-  pub masked_none : m ≡ 0 → NoneFrom (word_set a) k
+  masked_none : m ≡ 0 → NoneFrom (word_set a) k
   masked_none e j l t = masked_off j l (ap (λ x. bit x j) e ∙ bit_past 0 j (pow_pos j)) t
 
-  pub masked_next : m ≢ 0 → Lowest (word_set a) k (count_trailing_zeros 64 m)
+  masked_next : m ≢ 0 → Lowest (word_set a) k (count_trailing_zeros 64 m)
   masked_next ne =
       let z = trailing_some 64 m hm ne in
       let n = count_trailing_zeros 64 m in
@@ -120,3 +120,8 @@ module _ (a k m : ℕ) (ha : a < 2 ^ 64) (hm : m < 2 ^ 64) (is : (j : ℕ) → j
         above = leb→le k n p.1;
         first = λ j l h t. masked_off j l (trailing_low 64 m j h) t;
       }
+
+  -- what `then` gives of it
+  pub masked_lowest : (o : Option ℕ) → is_some o ≡ not (eqb m 0) → IfSome o (λ n. n ≡ count_trailing_zeros 64 m) → MatchOption o (NoneFrom (word_set a) k) (Lowest (word_set a) k)
+  masked_lowest None e s = masked_none (eqb-true m 0 (not-false (eqb m 0) (sym e)))
+  masked_lowest (Some n) e s = subst (Lowest (word_set a) k) (sym s) (masked_next (eqb-false m 0 (not-true (eqb m 0) (sym e))))

@@ -6,3 +6,4 @@ pub mod Truth
 pub mod Counts
 pub mod ListLaws
 pub mod WordBelow
+pub mod Members

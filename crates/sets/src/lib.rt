@@ -3,8 +3,10 @@
 
 pub mod kind;
 pub mod list;
+pub mod members;
 pub mod word;
 
-pub use kind::SetKind;
+pub use kind::{CannotHold, SetKind};
 pub use list::ListSet;
+pub use members::Members;
 pub use word::WordSet;

@@ -1,66 +1,32 @@
 // The list kind: at most 16 numbers below 256, in rising order.
 ghost use Rattle.std.specs.Prelude.{◌≡◌, ℕ, ◌+◌, ◌<◌, ◌≤◌, T, take, slice_index};
 ghost use Rattle.sets.specs.Sets.{listed};
-ghost use Rattle.sets.specs.Rising.{rising, put, cut, Sixteen};
+ghost use Rattle.sets.specs.Rising.{rising, Sixteen};
 ghost use Rattle.sets.specs.Listing.{listed_bounds};
 ghost use Rattle.sets.specs.ListLaws.{held_list, held_none, held_less};
 ghost use Rattle.std.proofs.Common.{lit≤};
 
-use crate::kind::SetKind;
+use crate::kind::{CannotHold, SetKind};
 
-// The first `len` numbers are the members; what stands behind them means nothing.
+// How many numbers a list has room for.
+const ROOM: usize = 16;
+
+// The first `len` numbers are the members; what stands behind them means nothing. An array, not a vector: it allocates nothing and can be
+// copied.
 #[derive(Clone, Copy)]
 pub struct ListSet {
     len: usize,
-    numbers: [u8; 16],
+    numbers: [u8; ROOM],
     ghost ok: { (len ≤ 16) × T (rising 0 (take len numbers)) },
 }
 
-// The place of the first member that is k or more; the length if there is none.
-fn place(x: &ListSet, k: usize) -> usize
-    ensures within { result ≤ x.now.len }
-    ensures below { (j : ℕ) → j < result → slice_index x.now.numbers j < k }
-    ensures there { result < x.now.len → k ≤ slice_index x.now.numbers result }
-{
-    for i in 0..x.len {
-        if x.numbers[i] as usize >= k {
-            return i;
-        }
+impl ListSet {
+    // The members, in rising order.
+    fn as_slice(&self) -> &[u8]
+        ensures { result.now ≡ take self.now.len self.now.numbers }
+    {
+        &self.numbers[..self.len]
     }
-    x.len
-}
-
-// The numbers with k put in its place among the first len.
-fn put_in(mut numbers: [u8; 16], len: usize, k: u8) -> [u8; 16]
-    requires { len < 16 }
-    ensures { take (len + 1) result ≡ put k (take len numbers) }
-{
-    let mut carry = k;
-    for i in 0..len {
-        let x = numbers[i];
-        if carry < x {
-            numbers[i] = carry;
-            carry = x;
-        }
-    }
-    numbers[len] = carry;
-    numbers
-}
-
-// The numbers without k, and how many of the first len are left.
-fn cut_out(mut numbers: [u8; 16], len: usize, k: usize) -> ([u8; 16], usize)
-    requires { len ≤ 16 }
-    ensures { (take result.1 result.0 ≡ cut k (take len numbers)) × (result.1 ≤ len) }
-{
-    let mut left = 0;
-    for i in 0..len {
-        let x = numbers[i];
-        if x as usize != k {
-            numbers[left] = x;
-            left += 1;
-        }
-    }
-    (numbers, left)
 }
 
 impl SetKind for ListSet {
@@ -87,66 +53,57 @@ impl SetKind for ListSet {
     fn empty() -> ListSet {
         ListSet {
             len: 0,
-            numbers: [0; 16],
+            numbers: [0; ROOM],
         }
     }
 
-    fn insert(&mut self, k: usize) -> bool {
-        if self.member(k) {
-            return true;
-        }
-        if k >= 256 {
-            return false;
-        }
-        if self.len >= 16 {
-            return false;
-        }
-        let numbers = put_in(self.numbers, self.len, k as u8);
-        *self = ListSet {
-            len: self.len + 1,
-            numbers,
+    fn insert(&mut self, k: usize) -> Result<(), CannotHold> {
+        let number = u8::try_from(k).map_err(|_| CannotHold)?;
+        let Err(at) = self.as_slice().binary_search(&number) else {
+            return Ok(());
         };
-        true
+        if self.len == ROOM {
+            return Err(CannotHold);
+        }
+        self.numbers[self.len] = number;
+        self.len += 1;
+        self.numbers[at..self.len].rotate_right(1);
+        Ok(())
     }
 
     fn remove(&mut self, k: usize) {
-        let (numbers, len) = cut_out(self.numbers, self.len, k);
-        *self = ListSet { len, numbers };
+        let found = self.as_slice().iter().position(|x| usize::from(*x) == k);
+        if let Some(at) = found {
+            self.numbers[at..self.len].rotate_left(1);
+            self.len -= 1;
+        }
     }
 
     fn member(&self, k: usize) -> bool {
-        let i = place(self, k);
-        i < self.len && self.numbers[i] as usize == k
+        self.as_slice().iter().any(|x| usize::from(*x) == k)
     }
 
     fn size(&self) -> usize {
-        self.len
+        self.as_slice().len()
     }
 
     fn within(&self, other: &ListSet) -> bool {
-        for i in 0..self.len {
-            if !other.member(self.numbers[i] as usize) {
-                return false;
-            }
-        }
-        true
+        self.as_slice()
+            .iter()
+            .all(|x| other.member(usize::from(*x)))
     }
 
     fn apart(&self, other: &ListSet) -> bool {
-        for i in 0..self.len {
-            if other.member(self.numbers[i] as usize) {
-                return false;
-            }
-        }
-        true
+        !self
+            .as_slice()
+            .iter()
+            .any(|x| other.member(usize::from(*x)))
     }
 
     fn next(&self, k: usize) -> Option<usize> {
-        let i = place(self, k);
-        if i < self.len {
-            Some(self.numbers[i] as usize)
-        } else {
-            None
-        }
+        self.as_slice()
+            .iter()
+            .map(|x| usize::from(*x))
+            .find(|x| *x >= k)
     }
 }

@@ -5,9 +5,9 @@ ghost use Rattle.sets.specs.Words.{word_set};
 ghost use Rattle.sets.specs.WordBelow.{word_under};
 ghost use Rattle.std.proofs.Common.{lit≤};
 
-use crate::kind::SetKind;
+use crate::kind::{CannotHold, SetKind};
 
-#[derive(Clone, Copy)]
+#[derive(Clone, Copy, Debug, PartialEq, Eq)]
 pub struct WordSet {
     bits: u64,
 }
@@ -45,17 +45,17 @@ impl SetKind for WordSet {
         WordSet { bits: 0 }
     }
 
-    fn insert(&mut self, k: usize) -> bool {
+    fn insert(&mut self, k: usize) -> Result<(), CannotHold> {
         if k >= 64 {
-            return false;
+            return Err(CannotHold);
         }
-        self.bits = self.bits | single(k);
-        true
+        self.bits |= single(k);
+        Ok(())
     }
 
     fn remove(&mut self, k: usize) {
         if k < 64 {
-            self.bits = self.bits & !single(k);
+            self.bits &= !single(k);
         }
     }
 
@@ -80,9 +80,6 @@ impl SetKind for WordSet {
             return None;
         }
         let rest = self.bits & (u64::MAX << k);
-        if rest == 0 {
-            return None;
-        }
-        Some(rest.trailing_zeros() as usize)
+        (rest != 0).then(|| rest.trailing_zeros() as usize)
     }
 }

@@ -1,5 +1,5 @@
 -- Marks that spread until nothing changes, and what they tell of the drawing.
-use Rattle.std.proofs.Common.{◌≡◌, ℕ, ◌+◌, ◌-◌, ◌<◌, ◌≤◌, Bool, true, false, cond, T, eqb, List, length, get_or, set, replicate, Decides, sym, refl, ap, ◌∙◌, subst, ⊎_elim, arith, lit<}
+use Rattle.std.proofs.Common.{◌≡◌, ℕ, ◌-◌, ◌<◌, ◌≤◌, Bool, true, false, cond, T, eqb, List, length, get_or, set, replicate, Decides, sym, refl, ap, ◌∙◌, subst, ⊎_elim, arith, lit<}
 use Rattle.std.proofs.lemmas.Bool.{eqb-true, cases_lt}
 use Rattle.sets.specs.Sets.{Numbers, Within, count}
 use Rattle.sets.specs.Truth.{holds_true, true_holds}
@@ -10,7 +10,7 @@ use Rattle.systems.specs.Marking.{Passed}
 use Rattle.systems.specs.States.{up}
 use Rattle.systems.specs.declared.line.Line.{Line}
 use Rattle.systems.specs.declared.state.State.{State}
-use Rattle.systems.proofs.Chains.{count_has, count_most, count_back, chains_are_walks}
+use Rattle.systems.proofs.Chains.{count_most, count_back, chains_are_walks}
 use Rattle.systems.proofs.Marks.{blank, put_reads}
 
 self_cond : (b : Bool) → cond b true false ≡ b
@@ -28,40 +28,34 @@ more_marked n k before after h l e t =
     ⊎_elim (λ less. less) (λ le. absurd (subst T e (count_back before after h n le k l t))) (cases_lt (count before n) (count after n))
 
 module _ (items nodes : ℕ) (lines : List Line) (s : Numbers) where
-  -- after n passes: node 0 is marked, a walk leads to each marked node, and there are more of these than passes
-  pub record Spread (n : ℕ) (marks : Numbers) : Type 0 where
+  -- node 0 is marked, and a walk leads to each marked node
+  pub record Sound (marks : Numbers) : Type 0 where
     pub first : T (marks 0)
     pub walk : (k : ℕ) → T (marks k) → Walk items nodes lines s k
-    pub many : n < count marks nodes
 
-  pub spread_none : (marks : Numbers) → 1 ≤ nodes → ((k : ℕ) → marks k ≡ eqb k 0) → Spread 0 marks
-  spread_none marks some e =
-      let z = true_holds (marks 0) (e 0) in
-      record {
-        first = z;
-        walk = λ k t. subst (Walk items nodes lines s) (sym (eqb-true k 0 (sym (e k) ∙ holds_true (marks k) t))) start;
-        many = count_has marks nodes z some;
-      }
+  pub sound_first : (marks : Numbers) → ((k : ℕ) → marks k ≡ eqb k 0) → Sound marks
+  sound_first marks e = record {
+    first = true_holds (marks 0) (e 0);
+    walk = λ k t. subst (Walk items nodes lines s) (sym (eqb-true k 0 (sym (e k) ∙ holds_true (marks k) t))) start;
+  }
 
-  module _ (n : ℕ) (before after : Numbers) (more : Bool) (g : Spread n before) (p : Passed items nodes lines s (length lines) before after more) where
-    pub spread_more : more ≡ true → Spread (n + 1) after
-    spread_more e =
+  module _ (n : ℕ) (before after : Numbers) (more : Bool) (p : Passed items nodes lines s n before after more) where
+    -- a new mark leaves fewer nodes without one
+    pub fewer_left : more ≡ true → nodes - count after nodes < nodes - count before nodes
+    fewer_left e =
         let f = p.fresh e in
         let m = more_marked nodes f.0 before after p.grown f.1 f.2 f.3 in
-        record { first = p.grown 0 g.first; walk = p.sound g.walk; many = omega (arith, g.many) }
+        omega (arith, count_most after nodes)
 
+  module _ (before after : Numbers) (more : Bool) (p : Passed items nodes lines s (length lines) before after more) where
     -- where no line leads to a new node, each walk stays among the marks
-    stays : more ≡ false → {k : ℕ} → Walk items nodes lines s k → T (before k)
-    stays e start = g.first
-    stays e (along {a} {b} i l o j w) = p.closed e i l o a b j (stays e w)
+    stays : more ≡ false → Sound before → {k : ℕ} → Walk items nodes lines s k → T (before k)
+    stays e g start = g.first
+    stays e g (along {a} {b} i l o j w) = p.closed e i l o a b j (stays e g w)
 
-    pub decides_walk : more ≡ false → (k : ℕ) → Decides (after k) (Walk items nodes lines s k)
-    decides_walk e k =
-        (λ t. p.sound g.walk k (true_holds (after k) t), λ w. holds_true (after k) (p.grown k (stays e w)))
-
-  -- not more passes than nodes
-  pub spread_most : (n : ℕ) (marks : Numbers) → Spread n marks → n < nodes
-  spread_most n marks g = omega (arith, g.many, count_most marks nodes)
+    pub decides_walk : more ≡ false → Sound before → (k : ℕ) → Decides (after k) (Walk items nodes lines s k)
+    decides_walk e g k =
+        (λ t. p.sound g.walk k (true_holds (after k) t), λ w. holds_true (after k) (p.grown k (stays e g w)))
 
 module _ (items nodes : ℕ) (lines : List Line) (state : State) where
   abbrev Drawn : Type 0

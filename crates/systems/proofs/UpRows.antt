@@ -1,7 +1,8 @@
 -- Rows that are up, and what the test of them tells.
-use Rattle.std.proofs.Common.{◌≡◌, ℕ, zero, suc, ◌+◌, ◌<◌, ◌≤◌, Bool, ◌&&◌, ◌||◌, T, ltb, leb, List, [], ◌∷◌, map, length, get_or, Decides, sym, refl, ap, ◌∙◌, subst, ⊎_elim, le_of_suc-le-suc, not-suc-le-zero, arith, ltb→lt, leb→le, below_more}
+use Rattle.std.proofs.Common.{◌≡◌, ℕ, zero, suc, ◌<◌, ◌≤◌, Bool, true, false, ◌&&◌, ◌||◌, T, ltb, leb, List, [], ◌∷◌, map, length, get_or, Decides, MatchBool, sym, refl, ap, subst, ⊎_elim, le_of_suc-le-suc, not-suc-le-zero, arith, ltb→lt}
+use Rattle.std.specs.List.{AllWithin, HoldsAt}
 use Rattle.std.proofs.lemmas.List.{get_or-map, length-map}
-use Rattle.std.proofs.lemmas.Bool.{cases_lt, lt-ltb}
+use Rattle.std.proofs.lemmas.Bool.{cases_lt, lt-ltb, false≢true}
 use Rattle.std.proofs.lemmas.Bool.Decides.{Decides-at, Decides-like, Decides-and}
 use Rattle.sets.specs.Sets.{Numbers, nothing, Within, Below}
 use Rattle.sets.proofs.Deciding.{decides_within}
@@ -43,26 +44,36 @@ module _ (items : ℕ) (s : Numbers) where
 
 -- ---- rows that values of a set kind mean
 
+-- an element of a list that has one
+first_of : {X : Type 0} (xs : List X) (i : ℕ) → i < length xs → X
+first_of [] i h = absurd (not-suc-le-zero h)
+first_of (x ∷ xs) i h = x
+
 -- an item that is up is one that the state has
 up_below : (state : State) → Below state.count (up state)
 up_below state k t = ⊎_elim (λ l. l) (λ ge. absurd (subst T (state.down k ge) t)) (cases_lt k state.count)
 
-module _ {X : Type 0} (f : X → Numbers) (xs : List X) where
-  row_is : (i : ℕ) (x : X) → i < length xs → x ≡ get_or xs i x → get_or (map f xs) i nothing ≡ f x
-  row_is i x l e = get_or-map f xs i x nothing l ∙ ap f (sym e)
+module _ {X : Type 0} (f : X → Numbers) (xs : List X) (state : State) where
+  abbrev Up : X → Type 0
+  Up x = Within (f x) (up state)
 
-  pub row_up_at : (i : ℕ) (x : X) (state : State) → length xs ≤ 4096 → i < length xs → x ≡ get_or xs i x → Within (f x) (up state) → RowUp state.count (map f xs) (up state)
-  row_up_at i x state few l e w =
-      let v : Within (get_or (map f xs) i nothing) (up state) = subst (λ (r : Numbers). Within r (up state)) (sym (row_is i x l e)) w in
-      record { few = simp length-map few; row = i; there = simp length-map l; inside = λ k m. up_below state k (v k m); up = v }
+  up_at : (i : ℕ) (d : X) → i < length xs → Up (get_or xs i d) → Within (get_or (map f xs) i nothing) (up state)
+  up_at i d l w = subst (λ (r : Numbers). Within r (up state)) (sym (get_or-map f xs i d nothing l)) w
 
-  -- what no row before i has, and row i has not, no row before i + 1 has
-  pub none_more : (P : Numbers → Type 0) (i : ℕ) (x : X) → i < length xs → x ≡ get_or xs i x → ((j : ℕ) → j < i → P (get_or (map f xs) j nothing) → ⊥) → (P (f x) → ⊥) → (j : ℕ) → j < i + 1 → P (get_or (map f xs) j nothing) → ⊥
-  none_more P i x l e none here =
-      below_more (λ j. P (get_or (map f xs) j nothing) → ⊥) i none (λ p. here (subst P (row_is i x l e) p))
+  at_up : (i : ℕ) (d : X) → i < length xs → Within (get_or (map f xs) i nothing) (up state) → Up (get_or xs i d)
+  at_up i d l w = subst (λ (r : Numbers). Within r (up state)) (get_or-map f xs i d nothing l) w
 
-  pub no_row_up : (n m : ℕ) (s : Numbers) → length xs ≤ n → ((j : ℕ) → j < n → Within (get_or (map f xs) j nothing) s → ⊥) → RowUp m (map f xs) s → ⊥
-  no_row_up n m s h none w = let t = simp length-map at w.there in none w.row (omega arith) w.up
+  -- what `any` answered of the rows
+  pub row_found : (b : Bool) → length xs ≤ 4096 → MatchBool b ((k : ℕ) × (k < length xs) × HoldsAt Up xs k) (AllWithin (λ x. Up x → ⊥) xs 0 (length xs)) → Decides b (RowUp state.count (map f xs) (up state))
+  row_found true few m =
+      let v = up_at m.0 (first_of xs m.0 m.1) m.1 (m.2 (first_of xs m.0 m.1)) in
+      (λ _. record { few = simp length-map few; row = m.0; there = simp length-map m.1; inside = λ k t. up_below state k (v k t); up = v }, λ _. refl)
+  row_found false few none = (
+    λ e. absurd (false≢true e),
+    λ u.
+        let l = simp length-map at u.there in
+        let d = first_of xs u.row l in absurd (none u.row d (omega arith) l (at_up u.row d l u.up)),
+  )
 
 -- ---- the drawing
 
@@ -74,9 +85,6 @@ each_low f (x ∷ xs) low (suc i) l = each_low f xs low i (le_of_suc-le-suc l)
 module _ (items : ℕ) (rows : List Numbers) (state : State) where
   abbrev Drawn : Type 0
   Drawn = WorksIn (row_structure items rows) state
-
-  pub drawn_few : Drawn → length rows ≤ 4096
-  drawn_few w = leb→le (length rows) 4096 (and_T (leb (length rows) 4096) (some_row_up items rows (up state)) w.1).0
 
   pub decides_drawn : (r : Bool) → state.count ≡ items → EachRow rows (Below 256) → Decides r (RowUp state.count rows (up state)) → Decides r Drawn
   decides_drawn r e low d =

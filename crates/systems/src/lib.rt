@@ -6,6 +6,7 @@ pub mod examples;
 pub mod line;
 pub mod lines;
 pub mod path_rows;
+mod spread;
 pub mod state;
 pub mod wholly;
 

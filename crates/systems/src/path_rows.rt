@@ -1,7 +1,6 @@
 // The row drawing: path rows.
-ghost use Rattle.std.specs.Prelude.{◌≤◌, map, length, Decides};
-ghost use Rattle.systems.specs.States.{up};
-ghost use Rattle.systems.specs.PathRows.{RowUp, row_structure};
+ghost use Rattle.std.specs.Prelude.{map};
+ghost use Rattle.systems.specs.PathRows.{row_structure};
 
 use crate::drawing::Drawing;
 use crate::state::State;
@@ -9,23 +8,10 @@ use crate::wholly::all_up;
 use sets::SetKind;
 
 // It works when one of its rows is up.
-#[derive(Clone, Copy)]
+#[derive(Clone, Copy, Debug)]
 pub struct RowDrawing<'a, K: SetKind> {
     pub items: usize,
     pub rows: &'a [K],
-}
-
-// Whether one of the rows is up.
-fn some_up<K: SetKind>(rows: &[K], state: &State) -> bool
-    requires { length rows.now ≤ 4096 }
-    ensures { Decides result (RowUp state.now.count (map K.mem rows.now) (up state.now)) }
-{
-    for row in rows {
-        if all_up(row, state) {
-            return true;
-        }
-    }
-    false
 }
 
 impl<'a, K: SetKind> Drawing for RowDrawing<'a, K> {
@@ -36,12 +22,8 @@ impl<'a, K: SetKind> Drawing for RowDrawing<'a, K> {
     }
 
     fn works(&self, state: &State) -> bool {
-        if state.count() != self.items {
-            return false;
-        }
-        if self.rows.len() > 4096 {
-            return false;
-        }
-        some_up(self.rows, state)
+        state.count() == self.items
+            && self.rows.len() <= 4096
+            && self.rows.iter().any(|row| all_up(row, state))
     }
 }

@@ -1,13 +1,74 @@
 // A state: which of a system's items are up.
 ghost use Rattle.std.specs.Prelude.{◌≡◌, ℕ, ◌≤◌, false, slice_index_or};
 
-pub mod calls;
-
-// The marks from the count on are down.
-#[derive(Clone, Copy)]
+// The marks from the count on are down. An array, not a vector: it allocates nothing and can be copied.
+#[derive(Clone, Copy, Debug, PartialEq, Eq)]
 pub struct State {
     count: usize,
     marks: [bool; 256],
     ghost few: { count ≤ 256 },
     ghost down: { (k : ℕ) → count ≤ k → slice_index_or marks k false ≡ false },
+}
+
+impl State {
+    ghost use Rattle.std.specs.Prelude.{◌<◌, ◌&&◌, if◌then◌else◌, nat_le};
+    ghost use Rattle.sets.specs.Sets.{nothing, Same};
+    ghost use Rattle.systems.specs.States.{up, marked};
+    ghost use Rattle.systems.specs.Systems.{others};
+
+    // All items down; of 0 items if asked for more than 256.
+    pub fn new(count: usize) -> State
+        ensures count { result.count ≡ (if nat_le count 256 then count else 0) }
+        ensures down { Same (up result) nothing }
+    {
+        let count = if count > 256 { 0 } else { count };
+        State {
+            count,
+            marks: [false; 256],
+        }
+    }
+
+    // The items up of which the rule says so; of 0 items if asked for more than 256. (A loop: over `array::from_fn` it is not proved that
+    // a closure which calls the rule stays as it was.)
+    pub(crate) fn from_fn<F: Fn(usize) -> bool>(count: usize, rule: F) -> State
+        requires { F.IsAlwaysCallable rule }
+        ensures count { result.count ≡ (if nat_le count 256 then count else 0) }
+        ensures marks { (k : ℕ) → k < result.count → F.post rule k (up result k) }
+    {
+        let mut state = State::new(count);
+        for item in 0..state.count {
+            state.set(item, rule(item));
+        }
+        state
+    }
+
+    pub fn count(&self) -> usize
+        ensures { result ≡ self.now.count }
+    {
+        self.count
+    }
+
+    pub fn is_up(&self, item: usize) -> bool
+        ensures { result ≡ up self.now item }
+    {
+        item < self.count && self.marks[item]
+    }
+
+    // The item up or down; an item outside the count changes nothing.
+    pub fn set(&mut self, item: usize, is_up: bool)
+        ensures count { self.new.count ≡ self.old.count }
+        ensures marks { Same (up self.new) (marked self.old.count item is_up (up self.old)) }
+    {
+        if item < self.count {
+            self.marks[item] = is_up;
+        }
+    }
+
+    // The state with every item the other way.
+    pub fn flipped(&self) -> State
+        ensures count { result.count ≡ self.now.count }
+        ensures marks { Same (up result) (others self.now.count (up self.now)) }
+    {
+        State::from_fn(self.count, |item| !self.is_up(item))
+    }
 }

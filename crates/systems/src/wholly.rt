@@ -1,4 +1,4 @@
-// Sets of items in states.
+// Sets of items in states. A path row is up or not, and a cut row is down or not: two questions, one chain each.
 ghost use Rattle.std.specs.Prelude.{◌≡◌, ℕ, ◌<◌, ◌≤◌, Decides};
 ghost use Rattle.sets.specs.Sets.{Within, Apart};
 ghost use Rattle.systems.specs.States.{up};
@@ -10,28 +10,14 @@ use sets::SetKind;
 pub fn all_up<K: SetKind>(set: &K, state: &State) -> bool
     ensures { Decides result (Within (K.mem set.now) (up state.now)) }
 {
-    let mut at = 0;
-    while let Some(item) = set.next(at) {
-        if !state.is_up(item) {
-            return false;
-        }
-        at = item + 1;
-    }
-    true
+    set.members().all(|item| state.is_up(item))
 }
 
 // Whether all items of the set are down.
 pub fn all_down<K: SetKind>(set: &K, state: &State) -> bool
     ensures { Decides result (Apart (K.mem set.now) (up state.now)) }
 {
-    let mut at = 0;
-    while let Some(item) = set.next(at) {
-        if state.is_up(item) {
-            return false;
-        }
-        at = item + 1;
-    }
-    true
+    !set.members().any(|item| state.is_up(item))
 }
 
 // The state of n items in which just those of the set are up.
@@ -39,9 +25,5 @@ pub fn alone_up<K: SetKind>(n: usize, set: &K) -> State
     ensures count { n ≤ 256 → result.count ≡ n }
     ensures marks { (k : ℕ) → k < result.count → up result k ≡ K.mem set.now k }
 {
-    let mut state = State::new(n);
-    for item in 0..state.count() {
-        state.set(item, set.member(item));
-    }
-    state
+    State::from_fn(n, |item| set.member(item))
 }

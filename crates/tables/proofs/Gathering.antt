@@ -1,5 +1,8 @@
 -- The loop that makes a row from a list of item numbers.
-use Rattle.std.proofs.Common.{◌≡◌, ℕ, ◌+◌, ◌<◌, ◌≤◌, Bool, true, false, ◌||◌, eqb, List, [], ◌∷◌, ◌++◌, length, get_or, take, sym, refl, ap, ◌∙◌, subst, arith, below_more}
+use Rattle.std.proofs.Common.{◌≡◌, ℕ, ◌+◌, ◌<◌, ◌≤◌, Bool, true, false, ◌||◌, eqb, List, [], ◌∷◌, ◌++◌, length, get_or, take, sym, refl, ap, ◌∙◌, subst, Ok, Err, Result, MatchResult, arith, below_more}
+use Rattle.std.specs.Result.{OnOk, OnErr, IsErrAnd, is_ok}
+use Rattle.std.proofs.lemmas.Bool.{true≢false}
+use Rattle.std.proofs.lemmas.Result.{err_from_is_err_and}
 use mathlib.Core.Path.{fun_ext}
 use Rattle.std.proofs.lemmas.List.{take_more, take_all}
 use Rattle.sets.specs.Sets.{Numbers, nothing, with, Same, Below, listed}
@@ -22,6 +25,15 @@ listed_push (x ∷ xs) y = ap (λ s. with s x) (listed_push xs y) ∙ fun_ext (�
 
 listed_more : (items : List ℕ) (i : ℕ) → i < length items → listed (take (i + 1) items) ≡ with (listed (take i items)) (get_or items i 0)
 listed_more items i lt = ap listed (take_more items i 0 lt) ∙ listed_push (take i items) (get_or items i 0)
+
+-- r is the result of a call, and s the result of `map_err` on it
+pub went_on : {A D E P : Type 0} (r : Result A D) (s : Result A E) (x : A) → s ≡ Ok x → is_ok s ≡ is_ok r → OnOk r P → P
+went_on (Ok y) s x e same h = h
+went_on (Err d) s x e same h = absurd (true≢false (ap is_ok (sym e) ∙ same))
+
+pub turned_back : {A D E P : Type 0} (Q : D → E → Type 0) (r : Result A D) (s : Result A E) (f : E) → s ≡ Err f → MatchResult r (λ x. s ≡ Ok x) (λ d. IsErrAnd s (Q d)) → OnErr r P → P × (d : D) × Q d f
+turned_back Q (Ok y) s f e m h = absurd (cc)
+turned_back Q (Err d) s f e m h = let p = err_from_is_err_and s m in let same : p.0 ≡ f = cc in (h, d, subst (Q d) same p.2)
 
 pub gathered_none : (n : ℕ) (holds : Numbers → Type 0) (items : List ℕ) (s : Numbers) → Same s nothing → Gathered n holds items 0 s
 gathered_none n holds items s e = record { pass = λ i lt. absurd (omega arith); is = fun_ext e }

@@ -1,5 +1,4 @@
-pub mod Clearing
-pub mod Closing
+pub mod Changing
 pub mod Sifting
 pub mod Reading
 pub mod Gathering

@@ -4,6 +4,8 @@
 --
 --   Judges    of the call that judges an item count
 --   Passes    an item of a list is below n, stands there for the first time, and the row with it can be held
+--   ItemRefused   of a list with an item that does not pass
+--   RowRefused    of a row that is not there
 --   Puts      of `put`
 --   Strikes   of `strike`
 --   Shows     of the call that shows a row
@@ -31,6 +33,11 @@ pub data ItemRefused (n : ℕ) (holds : Numbers → Type 0) (items : List ℕ) :
   no_such_item : (i : ℕ) → i < length items → Pass n holds items i → n ≤ slice_index items i → ItemRefused n holds items 2 (i ∷ [])
   repeated : (i : ℕ) → i < length items → Pass n holds items i → slice_index items i < n → listed (take i items) (slice_index items i) ≡ true → ItemRefused n holds items 3 (i ∷ [])
   cannot_hold : (i : ℕ) → i < length items → Pass n holds items i → slice_index items i < n → listed (take i items) (slice_index items i) ≡ false → (holds (listed (take (i + 1) items)) → ⊥) → ItemRefused n holds items 4 (i ∷ [])
+
+-- the refusal of a call that names a row, of a table with so many
+pub data RowRefused (n count row : ℕ) : ℕ → List ℕ → Type 0 where
+  row_closed : n ≡ 0 → RowRefused n count row 1 (n ∷ [])
+  no_such_row : 1 ≤ n → count ≤ row → RowRefused n count row 7 (count ∷ [])
 
 pub data Puts (n capacity : ℕ) (holds : Numbers → Type 0) (rows : List Numbers) (items : List ℕ) : Reply ℕ → List Numbers → Type 0 where
   put_closed : n ≡ 0 → Puts n capacity holds rows items (refused 1 (n ∷ [])) rows

@@ -3,8 +3,8 @@
 --   meant        the set of items in a place
 --   Standing     the first places mean the rows, in their order, and each place behind them, up to the capacity, the empty set
 --   Beyond       the places from `from` on are as they were
---   Emptied      the places from `from` up to `to` mean the empty set, and all others are as they were
-use Rattle.std.specs.Prelude.{◌≡◌, ℕ, ◌<◌, ◌≤◌, List, map, take, slice_index_or}
+use Rattle.std.specs.Prelude.{◌≡◌, ℕ, ◌≤◌, List, map, take, slice_index_or}
+use Rattle.std.specs.List.{AllWithin}
 use Rattle.sets.specs.Sets.{Numbers, nothing}
 use Rattle.tables.specs.declared.row.Row.{Row}
 
@@ -13,12 +13,7 @@ meant mem row = mem row.set
 
 pub record Standing {X : Type 0} (mem : X → Numbers) (places : List X) (capacity count : ℕ) (rows : List Numbers) : Type 0 where
   pub stand : map mem (take count places) ≡ rows
-  pub behind : (k : ℕ) (d : X) → count ≤ k → k < capacity → mem (slice_index_or places k d) ≡ nothing
+  pub behind : AllWithin (λ place. mem place ≡ nothing) places count capacity
 
 abbrev pub Beyond : {X : Type 0} → ℕ → List X → List X → Type 0
 Beyond {X} from before after = (k : ℕ) (d : X) → from ≤ k → slice_index_or after k d ≡ slice_index_or before k d
-
-pub record Emptied {X : Type 0} (mem : X → Numbers) (before after : List X) (from to : ℕ) : Type 0 where
-  pub empty : (k : ℕ) (d : X) → from ≤ k → k < to → mem (slice_index_or after k d) ≡ nothing
-  pub front : (k : ℕ) (d : X) → k < from → slice_index_or after k d ≡ slice_index_or before k d
-  pub rest : (k : ℕ) (d : X) → to ≤ k → slice_index_or after k d ≡ slice_index_or before k d

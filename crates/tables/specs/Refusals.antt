@@ -1,5 +1,6 @@
 -- Refusals: each has its number and the values that come with it. Assumes nothing.
-use Rattle.std.specs.Prelude.{ℕ, List, [], ◌∷◌, Ok, Err, Result}
+use Rattle.std.specs.Prelude.{ℕ, List, [], ◌∷◌, ◌++◌, codes, Ok, Err, Result}
+use Rattle.std.specs.Fmt.{decimal}
 use Rattle.std.specs.Borrow.{Bor}
 use Rattle.sets.specs.Sets.{Numbers}
 use Rattle.tables.specs.declared.fault.TableFault.{TableFault}
@@ -27,6 +28,16 @@ table_refusal (CannotHold place) = record { number = 4; values = place ∷ [] }
 table_refusal (Contains row) = record { number = 5; values = row ∷ [] }
 table_refusal (Full capacity) = record { number = 6; values = capacity ∷ [] }
 table_refusal (NoSuchRow count) = record { number = 7; values = count ∷ [] }
+
+-- what a refusal of a table says, with its value
+abbrev pub table_text : TableFault → List ℕ
+table_text (ItemCount count) = codes "item count " ++ decimal count
+table_text (NoSuchItem place) = codes "no such item, at place " ++ decimal place
+table_text (Repeated place) = codes "an item a second time, at place " ++ decimal place
+table_text (CannotHold place) = codes "more than the kind can hold, at place " ++ decimal place
+table_text (Contains row) = codes "it contains row " ++ decimal row
+table_text (Full capacity) = codes "no free place, capacity " ++ decimal capacity
+table_text (NoSuchRow count) = codes "no such row, row count " ++ decimal count
 
 abbrev pub table_reply : {Answer : Type 0} → Result Answer TableFault → Reply Answer
 table_reply = reply table_refusal

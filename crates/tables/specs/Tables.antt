@@ -3,7 +3,8 @@
 --   places     the whole memory handed over
 --   Holds      the table has n items, and its memory holds these rows: they stand in the first places, in their
 --              order, and each place behind them, up to the capacity, holds the empty set
---   Kept       the item count and the capacity are as they were, and so are the places from the capacity on
+--   Kept       the item count and the capacity are as they were, and so are the places from the capacity on; and the memory is the one
+--              that was lent, so that whoever lent it finds the places in it
 --   Unchanged  so are all places, and the number of rows
 use Rattle.std.specs.Prelude.{◌≡◌, ℕ, min, List, [], length}
 use Rattle.sets.specs.Sets.{Numbers}
@@ -13,7 +14,7 @@ use Rattle.tables.specs.declared.row.Row.{Row}
 use Rattle.tables.specs.declared.table.Table.{Table}
 
 abbrev pub places : {X : Type 0} {G : Ghosts X} → Table X G → List (Row X)
-places t = t.memory.places.now
+places t = t.places.now
 
 pub record Holds {X : Type 0} {G : Ghosts X} (mem : X → Numbers) (t : Table X G) (n : ℕ) (rows : List Numbers) : Type 0 where
   pub items : t.items ≡ n
@@ -24,6 +25,7 @@ pub record Kept {X : Type 0} {G : Ghosts X} (before after : Table X G) : Type 0 
   pub capacity : after.capacity ≡ before.capacity
   pub length : length (places after) ≡ length (places before)
   pub beyond : Beyond before.capacity (places before) (places after)
+  pub lent : after.places.ghost_name ≡ before.places.ghost_name
 
 pub record Unchanged {X : Type 0} {G : Ghosts X} (before after : Table X G) : Type 0 where
   pub memory : places after ≡ places before

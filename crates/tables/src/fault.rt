@@ -1,8 +1,11 @@
 // Why a call on a table is refused.
-ghost use Rattle.std.specs.Prelude.{◌≡◌, [], ◌∷◌};
-ghost use Rattle.tables.specs.Refusals.{table_refusal};
+ghost use Rattle.std.specs.Prelude.{◌≡◌, [], ◌∷◌, Some};
+ghost use Rattle.tables.specs.Refusals.{table_refusal, table_text};
 
-#[derive(Clone, Copy)]
+use std::error::Error;
+use std::fmt;
+
+#[derive(Clone, Copy, Debug, PartialEq, Eq)]
 pub enum TableFault {
     // 1: the item count, 0 or above the kind's ceiling
     ItemCount(usize),
@@ -25,7 +28,7 @@ impl TableFault {
     pub fn number(&self) -> usize
         ensures { result ≡ (table_refusal self.now).number }
     {
-        match *self {
+        match self {
             TableFault::ItemCount(_) => 1,
             TableFault::NoSuchItem(_) => 2,
             TableFault::Repeated(_) => 3,
@@ -41,13 +44,34 @@ impl TableFault {
         ensures { (table_refusal self.now).values ≡ result ∷ [] }
     {
         match *self {
-            TableFault::ItemCount(count) => count,
-            TableFault::NoSuchItem(place) => place,
-            TableFault::Repeated(place) => place,
-            TableFault::CannotHold(place) => place,
-            TableFault::Contains(row) => row,
-            TableFault::Full(capacity) => capacity,
-            TableFault::NoSuchRow(count) => count,
+            TableFault::ItemCount(value)
+            | TableFault::NoSuchItem(value)
+            | TableFault::Repeated(value)
+            | TableFault::CannotHold(value)
+            | TableFault::Contains(value)
+            | TableFault::Full(value)
+            | TableFault::NoSuchRow(value) => value,
         }
     }
 }
+
+// What the refusal says, with its value.
+impl fmt::Display for TableFault {
+    ghost output = { λ fault. Some (table_text fault) };
+
+    fn fmt<W: fmt::Write>(&self, f: &mut fmt::Formatter<W>) -> fmt::Result {
+        match self {
+            TableFault::ItemCount(count) => write!(f, "item count {count}"),
+            TableFault::NoSuchItem(place) => write!(f, "no such item, at place {place}"),
+            TableFault::Repeated(place) => write!(f, "an item a second time, at place {place}"),
+            TableFault::CannotHold(place) => {
+                write!(f, "more than the kind can hold, at place {place}")
+            }
+            TableFault::Contains(row) => write!(f, "it contains row {row}"),
+            TableFault::Full(capacity) => write!(f, "no free place, capacity {capacity}"),
+            TableFault::NoSuchRow(count) => write!(f, "no such row, row count {count}"),
+        }
+    }
+}
+
+impl Error for TableFault {}

@@ -12,16 +12,14 @@ pub(crate) fn gather<K: SetKind>(items: &[usize], n: usize) -> Result<K, TableFa
     ensures { MatchResult result (λ x. Pass n K.holds items.now (length items.now) × (K.mem x ≡ listed items.now)) (λ f. ItemRefused n K.holds items.now (table_refusal f).number (table_refusal f).values) }
 {
     let mut row = K::empty();
-    for (i, item) in items.iter().enumerate() {
-        if *item >= n {
+    for (i, &item) in items.iter().enumerate() {
+        if item >= n {
             return Err(TableFault::NoSuchItem(i));
         }
-        if row.member(*item) {
+        if row.member(item) {
             return Err(TableFault::Repeated(i));
         }
-        if !row.insert(*item) {
-            return Err(TableFault::CannotHold(i));
-        }
+        row.insert(item).map_err(|_| TableFault::CannotHold(i))?;
     }
     Ok(row)
 }

@@ -16,6 +16,7 @@ impl<K: SetKind> Row<K> {
     {
         Row { set: K::empty() }
     }
+
     // The set of the row's items.
     pub fn set(&self) -> &K
         ensures { result.now ≡ self.now.set }

@@ -5,6 +5,9 @@ use Rattle.completion.proofs.filling.fill.Given as goal
 
 abbrev pub invariant-loop-turn : goal.invariant-loop-turn
 invariant-loop-turn g l =
-    Kept l.initial.paths l.paths
-    × Kept l.initial.cuts l.cuts
-    × Filling g.K.SetKind.mem g.K.SetKind.holds (g.D.Drawing.means l.drawing) l.initial.paths l.initial.cuts l.paths l.cuts l.search l._turn
+    let initial = l.initial in
+    record {
+      paths_kept : Kept initial.paths l.paths;
+      cuts_kept : Kept initial.cuts l.cuts;
+      filling : Filling g.K.SetKind.mem g.K.SetKind.holds (g.D.Drawing.means l.drawing) initial.paths initial.cuts l.paths l.cuts l.search l._turn;
+    }

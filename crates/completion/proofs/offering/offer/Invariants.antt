@@ -4,4 +4,4 @@ use Rattle.completion.proofs.Items.{Collected}
 use Rattle.completion.proofs.offering.offer.Given as goal
 
 abbrev pub invariant-loop-item : goal.invariant-loop-item
-invariant-loop-item g l = Collected (up l.row) l.items l.item l.len
+invariant-loop-item g l = Collected (up l.row) l.items.items l.item

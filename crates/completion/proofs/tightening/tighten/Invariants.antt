@@ -1,19 +1,21 @@
-use Rattle.std.proofs.Common.{◌≡◌, ℕ, ◌-◌, ◌≤◌, List}
+-- The table keeps its places, and its rows give way.
+use Rattle.std.proofs.Common.{◌≡◌, ℕ, ◌≤◌, List}
 use Rattle.sets.specs.Sets.{Numbers}
+use Rattle.systems.specs.Systems.{EachRow}
 use Rattle.tables.specs.Rows.{Sound}
 use Rattle.tables.specs.Tables.{Holds, Kept}
-use Rattle.completion.specs.Sides.{side_of, AllBorne}
+use Rattle.completion.specs.Completions.{PathBorne}
 use Rattle.completion.proofs.Tightenings.{Tightening}
 use Rattle.completion.proofs.tightening.tighten.Given as goal
 
-abbrev pub invariant-loop-at : goal.invariant-loop-at
-invariant-loop-at g l =
-    Kept l.initial.table l.table
-    × (l.end ≤ 4096)
-    × ((n : ℕ) (ps : List Numbers) → 1 ≤ n → Holds g.K.SetKind.mem l.initial.table n ps → Sound n l.initial.table.capacity g.K.SetKind.holds ps
-    → (g.D.Drawing.means l.drawing).items ≡ n → AllBorne (side_of (g.D.Drawing.means l.drawing) l.side) ps
-    → (rs : List Numbers) × Holds g.K.SetKind.mem l.table n rs
-    × Tightening n l.initial.table.capacity g.K.SetKind.holds (side_of (g.D.Drawing.means l.drawing) l.side) ps rs l.at l.end)
-
-abbrev pub decreases-loop-at : goal.decreases-loop-at
-decreases-loop-at g l = l.end - l.at
+abbrev pub invariant-loop-turn : goal.invariant-loop-turn
+invariant-loop-turn g l =
+    let mem = g.K.SetKind.mem in
+    let ψ = g.D.Drawing.means l.drawing in
+    let before = l.initial.table in
+    record {
+      kept : Kept before l.table;
+      low : l.at ≤ l._turn;
+      tight : (n : ℕ) (ps : List Numbers) → 1 ≤ n → Holds mem before n ps → Sound n before.capacity g.K.SetKind.holds ps → ψ.items ≡ n → EachRow ps (PathBorne ψ)
+          → (rs : List Numbers) × Holds mem l.table n rs × Tightening n before.capacity g.K.SetKind.holds ψ ps rs l.at l._turn;
+    }

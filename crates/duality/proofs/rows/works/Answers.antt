@@ -1,25 +1,16 @@
-use Rattle.std.proofs.Common.{refl, arith}
-use Rattle.std.proofs.lemmas.Bool.{false≢true}
-use Rattle.sets.specs.Sets.{Within}
+use Rattle.std.proofs.Common.{rules}
+use Rattle.std.proofs.lemmas.Iterator.{YieldsList-from_slice}
+use Rattle.std.proofs.lemmas.Iterator.Search.{any_from_yields_List}
+use borrow.Author.Tests.{tests}
 use Rattle.systems.specs.States.{up}
 use Rattle.tables.specs.Memory.{meant}
-use Rattle.duality.proofs.RowFacts.{works_at, none_more, not_works}
+use Rattle.duality.specs.Shares.{is_within}
+use Rattle.duality.proofs.RowFacts.{below_most, decides_works}
 use Rattle.duality.proofs.rows.works.Goals as goal
 
-pub returns-then-all_up : goal.returns-then-all_up
-returns-then-all_up g c =
-    let w = c.if-all_up.ensures.0 refl in (
-      λ _. works_at g.K.SetKind.mem c.args.paths.now c.loop-row.row-index c.row-item.result c.set.result.now (omega arith) c.row-item.is c.set.ensures (up c.args.state.now) w,
-      λ _. refl,
-    )
-
-pub loop-row-preserved : goal.loop-row-preserved
-loop-row-preserved g c =
-    none_more g.K.SetKind.mem c.args.paths.now c.loop-row.row-index c.row-item.result c.set.result.now (omega arith) c.row-item.is c.set.ensures
-    (λ v. Within v (up c.args.state.now)) c.loop-row.invariant (λ w. false≢true (c.if-all_up.ensures.1 w))
-
 pub returns : goal.returns
-returns g c = (
-  λ e. absurd (false≢true e),
-  λ w. absurd (not_works (meant g.K.SetKind.mem) c.args.paths.now c.loop-row.row-index (omega arith) (up c.args.state.now) c.loop-row.invariant w),
-)
+returns g c =
+    let mem = meant g.K.SetKind.mem in
+    let s = up c.args.state.now in
+    let e = any_from_yields_List (λ x. is_within (mem x) s) _ _ _ c.any.ensures.ran (YieldsList-from_slice c.args.paths.now cc) (λ x b q k. search (rules, tests)) in
+    decides_works mem c.args.paths.now (λ x. below_most g.K.SetKind.top _ g.met.K.SetKind.small (g.met.K.SetKind.below x.set)) s c.any.result e

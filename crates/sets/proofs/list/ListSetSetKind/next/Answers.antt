@@ -1,19 +1,18 @@
-use Rattle.std.proofs.Common.{arith}
-use Rattle.sets.specs.ListLaws.{at_list, gap_list, none_list}
+use Rattle.std.proofs.Common.{nat_le, take, MatchOption, ◌∙◌, sym, subst, rules, tests, ap}
+use Rattle.std.specs.List.{find}
+use Rattle.std.proofs.lemmas.List.{map-id}
+use Rattle.std.proofs.lemmas.Iterator.{YieldsList-from_slice, YieldsList-from_map}
+use Rattle.std.proofs.lemmas.Iterator.Adapters.{option_map_id}
+use Rattle.std.proofs.lemmas.Iterator.Search.{find_from_yields_List}
+use Rattle.sets.specs.Sets.{listed, NoneFrom, Lowest}
+use Rattle.sets.proofs.Lists.{lowest_found}
 use Rattle.sets.proofs.list.ListSetSetKind.next.Goals as goal
 
-pub returns-then-i-self : goal.returns-then-i-self
-returns-then-i-self c =
-    let x = c.args.self.now in
-    let p = c.place-i in
-    record {
-      member = at_list x.len x.numbers (omega arith) p.result (omega arith);
-      above = p.ensures.there (omega arith);
-      first = gap_list x.len x.numbers (omega arith) c.args.k p.result x.ok.1 p.ensures.below (omega arith) (p.ensures.there (omega arith));
-    }
-
-pub returns-else-i-self : goal.returns-else-i-self
-returns-else-i-self c =
-    let x = c.args.self.now in
-    let p = c.place-i in
-    none_list x.len x.numbers (omega arith) c.args.k (λ j h. p.ensures.below j (omega arith))
+pub returns : goal.returns
+returns c =
+    let xs = take c.args.self.now.len c.args.self.now.numbers in
+    let k = c.args.k in
+    let found =
+    find_from_yields_List (λ x. nat_le k x) _ _ c.find.result c.find.ensures.ran
+    (YieldsList-from_map {ys = xs} _ (λ x. x) (YieldsList-from_slice xs cc) c.map.ensures.closure (λ x r q k. search rules)) (λ x b q k. search (rules, tests)) in
+    subst (λ o. MatchOption o (NoneFrom (listed xs) k) (Lowest (listed xs) k)) (sym (sym (option_map_id c.find.result) ∙ found ∙ ap (find (λ x. nat_le k x)) (map-id xs))) (lowest_found 0 k xs c.args.self.now.ok.1)

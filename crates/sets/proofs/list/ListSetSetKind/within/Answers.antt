@@ -1,16 +1,14 @@
-use Rattle.std.proofs.Common.{take, sym, arith}
+use Rattle.std.proofs.Common.{take, rules, tests}
+use Rattle.std.proofs.lemmas.Bool.Decides.{Decides-at}
+use Rattle.std.proofs.lemmas.Iterator.{YieldsList-from_slice}
+use Rattle.std.proofs.lemmas.Iterator.Search.{all_from_yields_List}
 use Rattle.sets.specs.Sets.{listed}
-use Rattle.sets.specs.ListLaws.{within_yes, within_no, decided_yes, decided_no}
+use Rattle.sets.proofs.Lists.{decides_all}
 use Rattle.sets.proofs.list.ListSetSetKind.within.Goals as goal
-
-pub returns-then-not-member : goal.returns-then-not-member
-returns-then-not-member c =
-    let x = c.args.self.now in
-    let y = c.args.other.now in
-    decided_no (within_no x.len x.numbers (omega arith) (listed (take y.len y.numbers)) c.loop-i.i (omega arith) (sym c.if-not-member.ensures))
 
 pub returns : goal.returns
 returns c =
-    let x = c.args.self.now in
-    let y = c.args.other.now in
-    decided_yes (within_yes x.len x.numbers (omega arith) (listed (take y.len y.numbers)) (λ j h. c.loop-i.invariant j (omega arith)))
+    let others = listed (take c.args.other.now.len c.args.other.now.numbers) in
+    Decides-at c.all.result _
+    (all_from_yields_List others _ _ c.all.result c.all.ensures.ran (YieldsList-from_slice _ cc) (λ x b q k. search (rules, tests)))
+    (decides_all _ others)

@@ -1,14 +1,15 @@
-use Rattle.std.proofs.Common.{inl, inr, arith}
+use Rattle.std.proofs.Common.{◌<◌, ◌≤◌, inl, inr, ⊎_elim, arith}
+use Rattle.std.proofs.lemmas.Bool.{cases_lt}
+use Rattle.std.proofs.lemmas.Grind.{common_steps}
 use Rattle.tables.specs.Calls.{judge_permits, judge_refuses}
 use Rattle.tables.proofs.table.Table.judge.Goals as goal
-use Rattle.tables.proofs.table.Table.judge.Goals.{then-items-eq0-via-then-items-eq0, then-items-eq0-via-else-items-eq0+then-items-ceiling}
 
-pub returns-then-items-eq0 : goal.returns-then-items-eq0
-returns-then-items-eq0 g c =
-    elim c.then-items-eq0.branch [
-      | then-items-eq0-via-then-items-eq0 w ↦ judge_refuses (inl w.if-items-eq0.true)
-      | then-items-eq0-via-else-items-eq0+then-items-ceiling w ↦ judge_refuses (inr (omega arith))
-    ]
+pub returns-then-not-contains : goal.returns-then-not-contains
+returns-then-not-contains g c =
+    let v = simp (c.new.ensures.start, c.new.ensures.end, c.new.ensures.exhausted, c.ceiling.ensures) at c.if-not-contains.ensures.value in
+    judge_refuses (⊎_elim (λ (low : c.args.items < 1). inl (omega arith)) (λ (pos : 1 ≤ c.args.items). inr (grind (arith, common_steps))) (cases_lt c.args.items 1))
 
 pub returns : goal.returns
-returns g c = judge_permits (omega arith) (omega arith)
+returns g c =
+    let v = simp (c.new.ensures.start, c.new.ensures.end, c.new.ensures.exhausted, c.ceiling.ensures) at c.if-not-contains.ensures.value in
+    judge_permits (grind (arith, common_steps)) (grind (arith, common_steps))

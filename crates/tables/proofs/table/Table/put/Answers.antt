@@ -1,84 +1,57 @@
-use Rattle.std.proofs.Common.{◌<◌, ◌≤◌, length, refl, ap, ◌∙◌, arith}
-use Rattle.std.proofs.lemmas.List.{length-set}
+use Rattle.std.proofs.Common.{refl, ◌∙◌, arith}
+use Rattle.std.proofs.lemmas.List.{length-set, length-take-le}
 use Rattle.std.proofs.lemmas.Result.{err_from_is_err_and}
 use Rattle.tables.specs.Memory.{meant}
 use Rattle.tables.specs.Calls.{put_closed, put_item}
-use Rattle.tables.proofs.Replying.{row_below, puts_contains, puts_full, standing_full, puts_done, standing_done, written}
+use Rattle.tables.proofs.Changing.{length_front, beyond_written}
+use Rattle.tables.proofs.Replying.{puts_contains, puts_full, puts_done}
 use Rattle.tables.proofs.table.Table.put.Goals as goal
 
-pub returns-then-n-eq0 : goal.returns-then-n-eq0
-returns-then-n-eq0 g c = record {
-  kept = record { items = refl; capacity = refl; length = refl; beyond = λ k d a. refl };
-  refused = record { memory = refl; count = refl };
-  puts = λ n ps h. rw (← h.items) (ps, put_closed c.if-n-eq0.true, record { items = refl; standing = h.standing });
-}
-
-pub returns-in_err-row : goal.returns-in_err-row
-returns-in_err-row g c =
+pub returns-in_err-opened-clause-puts : goal.returns-in_err-opened-clause-puts
+returns-in_err-opened-clause-puts g c = λ n ps h.
     let p = err_from_is_err_and c.from_residual.result c.from_residual.ensures.1 in
-    record {
-      kept = record { items = refl; capacity = refl; length = refl; beyond = λ k d a. refl };
-      refused = rw p.1 (record { memory = refl; count = refl });
-      puts = λ n ps h. rw (← h.items) (ps, rw (p.1, p.2) (put_item _ _ (omega arith) c.in_err-row.ensures), record { items = refl; standing = h.standing });
-    }
+    rw (← h.items) (ps, rw (p.1, p.2, c.in_err-opened.ensures.1) (put_closed c.in_err-opened.ensures.0), record { items = refl; standing = h.standing })
 
-pub returns-in-Some : goal.returns-in-Some
-returns-in-Some g c =
+pub returns-in_err-row-clause-puts : goal.returns-in_err-row-clause-puts
+returns-in_err-row-clause-puts g c = λ n ps h.
+    let p = err_from_is_err_and c.from_residual-in_err-row.result c.from_residual-in_err-row.ensures.1 in
+    rw (← h.items) (ps, rw (p.1, p.2) (put_item _ _ c.in_ok-opened.ensures c.in_err-row.ensures), record { items = refl; standing = h.standing })
+
+pub returns-in-Some-clause-puts : goal.returns-in-Some-clause-puts
+returns-in-Some-clause-puts g c = λ n ps h.
     let row = c.in_ok-row.ensures in
+    let contained = rw (c.rows.ensures.rows n ps h) at c.in-Some.ensures in
+    let t = c.args.self.now in
+    let put = puts_contains (meant g.K.SetKind.mem) _ _ _ (record { set = c.in_ok-row.row }) c.in_ok-opened.ensures row.0 row.1 t.places.now _ _ ps (omega arith) (omega arith) h.standing _ contained in
+    rw (← h.items) (ps, put, record { items = refl; standing = h.standing })
+
+pub returns-then-stay-self-clause-puts : goal.returns-then-stay-self-clause-puts
+returns-then-stay-self-clause-puts g c = λ n ps h.
+    let row = c.in_ok-row.ensures in
+    let new = rw (c.rows.ensures.rows n ps h) at c.in_default.ensures in
+    let kept = c.keep_others-stay.ensures in
+    let t = c.args.self.now in
+    let put = puts_full (meant g.K.SetKind.mem) _ _ _ (record { set = c.in_ok-row.row }) c.in_ok-opened.ensures row.0 row.1 t.places.now _ _ ps (omega arith) (omega arith) h.standing new _ _ kept.long kept.fewer kept.others (omega arith) in
+    rw (← h.items) (ps, put.0, record { items = refl; standing = put.1 })
+
+pub returns-clause-kept : goal.returns-clause-kept
+returns-clause-kept g c =
+    let t = c.args.self.now in
+    let xs = t.places.now in
+    let long = c.keep_others-stay.ensures.long ∙ length-take-le t.count xs (omega arith) in
     record {
-      kept = record { items = refl; capacity = refl; length = refl; beyond = λ k d a. refl };
-      refused = record { memory = refl; count = refl };
-      puts = λ n ps h. rw (← h.items) (
-        ps,
-        puts_contains (meant g.K.SetKind.mem) _ _ _ _ (omega arith) row.0 row.1 c.args.self.now.memory.places.now _ _ ps (omega arith) (omega arith) h.standing _ c.in-Some.ensures,
-        record { items = refl; standing = h.standing },
-      );
+      items = refl;
+      capacity = refl;
+      length = length-set _ _ _ ∙ length_front xs _ t.count long (omega arith);
+      beyond = beyond_written xs _ t.count long t.capacity _ _ (omega arith) (omega arith);
+      lent = refl;
     }
 
-pub returns-then-stay-self : goal.returns-then-stay-self
-returns-then-stay-self g c = record {
-  kept = record { items = refl; capacity = refl; length = c.keep_others-stay.ensures.long; beyond = λ k d a. c.keep_others-stay.ensures.beyond k d (omega arith) };
-  refused = record { memory = c.keep_others-stay.ensures.whole (omega arith); count = refl };
-  puts = λ n ps h.
-      let mem = meant g.K.SetKind.mem in
-      let row = c.in_ok-row.ensures in
-      let xs = c.args.self.now.memory.places.now in
-      let sifted = c.keep_others-stay.ensures in
-      let pos : 1 ≤ c.args.self.now.items = omega arith in
-      let le : c.args.self.now.count ≤ c.args.self.now.capacity = omega arith in
-      let inside : c.args.self.now.capacity ≤ length xs = omega arith in
-      let low = row_below mem _ _ _ _ pos row.0 row.1 xs _ _ ps le inside h.standing in
-      let then = sifted.rows _ _ ps low h.standing in
-      rw (← h.items) (
-        ps,
-        puts_full mem _ _ _ _ pos row.0 row.1 xs _ _ ps le inside h.standing c.in_default.ensures _ _ sifted.long sifted.fewer then (omega arith),
-        record { items = refl; standing = standing_full mem _ _ _ _ pos row.0 row.1 xs _ _ ps le inside h.standing c.in_default.ensures _ _ sifted.long sifted.fewer then (omega arith) },
-      );
-}
-
-pub returns : goal.returns
-returns g c = record {
-  kept = record {
-    items = refl;
-    capacity = refl;
-    length = ap length c.write.ensures ∙ length-set _ _ _ ∙ c.keep_others-stay.ensures.long;
-    beyond = λ k d a. written _ _ _ _ c.write.ensures k d (omega arith) ∙ c.keep_others-stay.ensures.beyond k d (omega arith);
-  };
-  refused = tt;
-  puts = λ n ps h.
-      let mem = meant g.K.SetKind.mem in
-      let row = c.in_ok-row.ensures in
-      let xs = c.args.self.now.memory.places.now in
-      let sifted = c.keep_others-stay.ensures in
-      let pos : 1 ≤ c.args.self.now.items = omega arith in
-      let le : c.args.self.now.count ≤ c.args.self.now.capacity = omega arith in
-      let inside : c.args.self.now.capacity ≤ length xs = omega arith in
-      let low = row_below mem _ _ _ _ pos row.0 row.1 xs _ _ ps le inside h.standing in
-      let then = sifted.rows _ _ ps low h.standing in
-      let room : c.keep_others-stay.result < c.args.self.now.capacity = omega arith in
-      rw (← h.items) (
-        _,
-        puts_done mem _ _ _ _ pos row.0 row.1 xs _ _ ps le inside h.standing c.in_default.ensures _ _ sifted.long sifted.fewer then room,
-        record { items = refl; standing = standing_done mem _ _ _ _ pos row.0 row.1 xs _ _ ps le inside h.standing c.in_default.ensures _ _ sifted.long sifted.fewer then room _ refl _ c.write.ensures },
-      );
-}
+pub returns-clause-puts : goal.returns-clause-puts
+returns-clause-puts g c = λ n ps h.
+    let row = c.in_ok-row.ensures in
+    let new = rw (c.rows.ensures.rows n ps h) at c.in_default.ensures in
+    let kept = c.keep_others-stay.ensures in
+    let t = c.args.self.now in
+    let put = puts_done (meant g.K.SetKind.mem) _ _ _ (record { set = c.in_ok-row.row }) c.in_ok-opened.ensures row.0 row.1 t.places.now _ _ ps (omega arith) (omega arith) h.standing new _ _ kept.long kept.fewer kept.others (omega arith) in
+    rw (← h.items) (_, put.0, record { items = refl; standing = put.1 })

@@ -1,21 +1,20 @@
-use Rattle.std.proofs.Common.{◌≤◌, length, sym, subst, arith}
+use Rattle.std.proofs.Common.{length, ap, ◌∙◌, arith}
+use Rattle.std.proofs.lemmas.List.{length-take-le}
+use Rattle.std.proofs.lemmas.Result.{err_from_is_err_and}
 use Rattle.tables.specs.Memory.{meant}
-use Rattle.tables.specs.Refusals.{answered}
-use Rattle.tables.specs.Calls.{show_closed, Shows}
 use Rattle.tables.proofs.Reading.{standing_many}
-use Rattle.tables.proofs.Replying.{shows_none, shows_done}
+use Rattle.tables.proofs.Replying.{shows_refused, shows_done}
 use Rattle.tables.proofs.table.Table.row.Goals as goal
 
-pub returns-then-self-eq0 : goal.returns-then-self-eq0
-returns-then-self-eq0 g c = λ n ps h. rw (← h.items) (show_closed c.if-self-eq0.true)
-
-pub returns-then-row-self : goal.returns-then-row-self
-returns-then-row-self g c = λ n ps h. rw (← h.items) (shows_none _ _ _ _ (standing_many (omega arith) h.standing) (omega arith) (omega arith))
+pub returns-in_err-index : goal.returns-in_err-index
+returns-in_err-index g c = λ n ps h.
+    let p = err_from_is_err_and c.from_residual.result c.from_residual.ensures.1 in
+    rw (← h.items, p.1, p.2) (shows_refused _ ps _ _ (standing_many (omega arith) h.standing) _ _ c.in_err-index.ensures)
 
 pub returns : goal.returns
 returns g c = λ n ps h.
-    let x = c.row.result.now in
-    let there : c.args.self.now.count ≤ length c.args.self.now.memory.places.now = omega arith in
-    rw (← h.items)
-    (subst (λ (y : g.row.K.Denot). Shows c.args.self.now.items ps c.args.row (answered (g.K.SetKind.mem y))) (sym (c.row.ensures (record { set = x })))
-    (shows_done (meant g.K.SetKind.mem) c.args.self.now.memory.places.now _ c.args.self.now.count c.args.self.now.items ps c.args.row (record { set = x }) (omega arith) (omega arith) there h.standing))
+    let index = c.in_ok-index.ensures in
+    let x = c.index-rows-index.result in
+    let many = ap length c.rows.ensures.places ∙ length-take-le c.args.self.now.count c.args.self.now.places.now (omega arith) in
+    rw (← h.items, c.set.ensures, c.index-rows-index.is, ← index.2)
+    (shows_done (meant g.K.SetKind.mem) _ ps c.rows.result.now c.in_ok-index.index x index.0 (omega arith) (c.rows.ensures.rows n ps h))

@@ -1,0 +1,15 @@
+use Rattle.std.proofs.Common.{rules}
+use Rattle.std.proofs.lemmas.Iterator.{YieldsList-from_slice}
+use Rattle.std.proofs.lemmas.Iterator.Search.{any_from_yields_List}
+use borrow.Author.Tests.{tests}
+use Rattle.tables.specs.Memory.{meant}
+use Rattle.duality.specs.Shares.{is_apart}
+use Rattle.duality.proofs.RowFacts.{below_most, decides_fails}
+use Rattle.duality.proofs.rows.some_apart.Goals as goal
+
+pub returns : goal.returns
+returns g c =
+    let mem = meant g.K.SetKind.mem in
+    let s = mem c.args.row.now in
+    let e = any_from_yields_List (λ x. is_apart (mem x) s) _ _ _ c.any.ensures.ran (YieldsList-from_slice c.args.cuts.now cc) (λ x b q k. search (rules, tests)) in
+    decides_fails mem c.args.cuts.now (λ x. below_most g.K.SetKind.top _ g.met.K.SetKind.small (g.met.K.SetKind.below x.set)) s c.any.result e
