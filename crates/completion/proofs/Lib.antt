@@ -13,3 +13,4 @@ pub mod Keeping
 pub mod Filled
 pub mod Endings
 pub mod Counting
+pub mod Replaying

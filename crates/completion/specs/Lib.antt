@@ -2,3 +2,6 @@ pub mod Minimals
 pub mod Offers
 pub mod Fills
 pub mod Completions
+pub mod Refused
+pub mod Runs
+pub mod Replays

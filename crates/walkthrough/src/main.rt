@@ -1,4 +1,4 @@
-// Two figures, from empty tables to full ones: each call is printed with its answer.
+// Figures from empty tables to their verdict: each call is printed with its answer.
 #![tactic(auto)]
 
 mod bridge;
@@ -8,7 +8,9 @@ mod show;
 use std::io;
 
 fn main(rt: HostRuntime) -> io::Result<()> {
-    bridge::draw(&rt)?;
-    println!(rt; "")?;
-    cooling::draw(&rt)
+    bridge::typed(&rt)?;
+    bridge::wrong_count(&rt)?;
+    bridge::drawn(&rt)?;
+    cooling::typed(&rt)?;
+    cooling::drawn(&rt)
 }

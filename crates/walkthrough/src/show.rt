@@ -1,17 +1,14 @@
-// Calls on tables, each printed with its answer.
+// Runs of calls, each call printed with its answer.
 ghost use Rattle.std.specs.Iterator.{IsFinite};
 
-use duality::{Verdict, audit};
+use completion::{Answer, Call, Refused, Reply, replay};
+use duality::Verdict;
 use sets::SetKind;
 use std::alloc::{AllocError, Global};
 use std::fmt::Display;
 use std::io;
+use systems::Drawing;
 use tables::{Row, Table};
-
-// Row memory of so many places.
-pub fn memory<K: SetKind>(alloc: Global, places: usize) -> Result<Vec<Row<K>>, AllocError> {
-    (0..places).map(|_| Row::empty()).collect(alloc)
-}
 
 // Judges an item count for tables of the kind.
 pub fn judge<K: SetKind>(rt: &impl Print, items: usize) -> io::Result<()> {
@@ -22,97 +19,116 @@ pub fn judge<K: SetKind>(rt: &impl Print, items: usize) -> io::Result<()> {
     }
 }
 
-// A table with the name that it is called by.
-#[derive(Drop)]
-pub struct Named<'t, K: SetKind> {
-    name: &'static str,
-    table: Table<'t, K>,
+// The two tables of a run: their item count, and how many places each has.
+#[derive(Clone, Copy, Debug, PartialEq, Eq)]
+pub struct Tables {
+    pub items: usize,
+    pub paths: usize,
+    pub cuts: usize,
 }
 
-impl<'t, K: SetKind> Named<'t, K> {
-    // Opens a table over the memory.
-    pub fn open(
-        rt: &impl Print,
-        name: &'static str,
-        memory: &'t mut [Row<K>],
-        items: usize,
-    ) -> io::Result<Named<'t, K>> {
-        let table = Table::open(memory, items);
+impl Tables {
+    // Makes the calls, and shows each with its answer, and the rows at the end.
+    pub fn run<K: SetKind, D: Drawing>(
+        &self,
+        rt: &(impl Print + AllocGlobal),
+        calls: &[Call],
+        drawings: &[D],
+    ) -> io::Result<()> {
+        let mut paths = memory::<K>(rt.alloc(), self.paths)?;
+        let mut cuts = memory::<K>(rt.alloc(), self.cuts)?;
+        let mut answers = places(rt.alloc(), calls.len())?;
         println!(rt;
-            "{name}: opened for {items} items: item count {}, capacity {}",
-            table.item_count(),
-            table.capacity()
+            "open {} items, {} places for paths, {} for cuts",
+            self.items, self.paths, self.cuts
         )?;
-        Ok(Named { name, table })
-    }
-
-    pub fn table(&self) -> &Table<'t, K> {
-        &self.table
-    }
-
-    pub fn put(&mut self, rt: &impl Print, items: &[usize]) -> io::Result<()> {
-        print!(rt; "{}: put ", self.name)?;
-        braces(rt, items.iter().copied())?;
-        print!(rt; ": ")?;
-        match self.table.put(items) {
-            Ok(removed) => println!(rt; "accepted, rows removed: {removed}"),
-            Err(fault) => refused(rt, fault.number(), &fault),
+        // as `replay` opens them
+        opened(rt, "paths", &Table::open(paths.as_mut_slice(), self.items))?;
+        opened(rt, "cuts", &Table::open(cuts.as_mut_slice(), self.items))?;
+        let end = replay(
+            self.items,
+            calls,
+            drawings,
+            paths.as_mut_slice(),
+            cuts.as_mut_slice(),
+            answers.as_mut_slice(),
+        );
+        for (call, reply) in calls.iter().zip(answers.as_slice()) {
+            called(rt, call)?;
+            replied(rt, reply)?;
         }
-    }
-
-    // Puts rows one after another.
-    pub fn put_each(&mut self, rt: &impl Print, rows: &[&[usize]]) -> io::Result<()> {
-        for items in rows {
-            self.put(rt, items)?;
-        }
-        Ok(())
-    }
-
-    pub fn strike(&mut self, rt: &impl Print, row: usize) -> io::Result<()> {
-        print!(rt; "{}: strike row {row}: ", self.name)?;
-        match self.table.strike(row) {
-            Ok(()) => println!(rt; "struck"),
-            Err(fault) => refused(rt, fault.number(), &fault),
-        }
-    }
-
-    // Shows one row by its number.
-    pub fn row(&self, rt: &impl Print, row: usize) -> io::Result<()> {
-        print!(rt; "{}: row {row}: ", self.name)?;
-        match self.table.row(row) {
-            Ok(set) => {
-                braces(rt, set.members())?;
-                println!(rt; "")
-            },
-            Err(fault) => refused(rt, fault.number(), &fault),
-        }
-    }
-
-    // Shows all rows.
-    pub fn rows(&self, rt: &impl Print) -> io::Result<()> {
-        let count = self.table.row_count();
         println!(rt;
-            "{}: {count} rows in {} places",
-            self.name,
-            self.table.capacity()
+            "calls made: {}, paths: {}, cuts: {}",
+            end.made, end.paths, end.cuts
         )?;
-        for row in 0..count {
-            self.row(rt, row)?;
-        }
-        Ok(())
+        rows(rt, "path", paths.as_slice(), end.paths)?;
+        rows(rt, "cut", cuts.as_slice(), end.cuts)
     }
 }
 
-// Audits the two tables.
-pub fn audited<K: SetKind>(
+// Row memory of so many places.
+pub fn memory<K: SetKind>(alloc: Global, places: usize) -> Result<Vec<Row<K>>, AllocError> {
+    (0..places).map(|_| Row::empty()).collect(alloc)
+}
+
+// Places for so many answers.
+fn places(alloc: Global, count: usize) -> Result<Vec<Reply>, AllocError> {
+    (0..count).map(|_| Ok(Answer::Done)).collect(alloc)
+}
+
+// A table as it was opened.
+fn opened<K: SetKind>(rt: &impl Print, name: &str, table: &Table<K>) -> io::Result<()> {
+    println!(rt;
+        "{name}: item count {}, capacity {}",
+        table.item_count(),
+        table.capacity()
+    )
+}
+
+// The row of a table with this number.
+pub fn row<K: SetKind>(
     rt: &impl Print,
-    paths: &Named<'_, K>,
-    cuts: &Named<'_, K>,
+    name: &str,
+    table: &Table<K>,
+    row: usize,
 ) -> io::Result<()> {
-    print!(rt; "audit: ")?;
-    match audit(paths.table(), cuts.table()) {
-        Ok(verdict) => said(rt, &verdict),
+    print!(rt; "{name}: row {row}: ")?;
+    match table.row(row) {
+        Ok(set) => {
+            braces(rt, set.members())?;
+            println!(rt; "")
+        },
         Err(fault) => refused(rt, fault.number(), &fault),
+    }
+}
+
+// A call.
+fn called(rt: &impl Print, call: &Call) -> io::Result<()> {
+    match *call {
+        Call::PutPath(items) => put(rt, "path", items)?,
+        Call::PutCut(items) => put(rt, "cut", items)?,
+        Call::StrikePath(row) => print!(rt; "strike path {row}")?,
+        Call::StrikeCut(row) => print!(rt; "strike cut {row}")?,
+        Call::Audit => print!(rt; "audit")?,
+        Call::Complete(number) => print!(rt; "complete from drawing {number}")?,
+    }
+    print!(rt; ": ")
+}
+
+// A put, with the list as it was typed.
+fn put(rt: &impl Print, table: &str, items: &[usize]) -> io::Result<()> {
+    print!(rt; "put {table} ")?;
+    braces(rt, items.iter().copied())
+}
+
+// What it replied.
+fn replied(rt: &impl Print, reply: &Reply) -> io::Result<()> {
+    match reply {
+        Ok(Answer::Removed(removed)) => println!(rt; "accepted, rows removed: {removed}"),
+        Ok(Answer::Struck) => println!(rt; "struck"),
+        Ok(Answer::Said(verdict)) => said(rt, verdict),
+        Ok(Answer::Done) => println!(rt; "DONE"),
+        Err(fault) => not_made(rt, fault),
     }
 }
 
@@ -132,6 +148,30 @@ fn said(rt: &impl Print, verdict: &Verdict) -> io::Result<()> {
 // A refusal: its number, and what it means.
 fn refused(rt: &impl Print, number: usize, fault: &impl Display) -> io::Result<()> {
     println!(rt; "refused {number}: {fault}")
+}
+
+// A call that was refused; that there is no such drawing has no number.
+fn not_made(rt: &impl Print, fault: &Refused) -> io::Result<()> {
+    if let Some(number) = fault.number() {
+        refused(rt, number, fault)
+    } else {
+        println!(rt; "{fault}")
+    }
+}
+
+// The rows of a table, as they stand in its memory.
+fn rows<K: SetKind>(
+    rt: &impl Print,
+    name: &str,
+    memory: &[Row<K>],
+    count: usize,
+) -> io::Result<()> {
+    for (number, row) in memory.iter().take(count).enumerate() {
+        print!(rt; "{name} {number}: ")?;
+        braces(rt, row.set().members())?;
+        println!(rt; "")?;
+    }
+    Ok(())
 }
 
 // Item numbers in braces.
