@@ -1,8 +1,10 @@
 pub mod RowFacts
 pub mod Tallies
+pub mod Sifting
 pub mod Stacking
 pub mod Halving
 pub mod Findings
 pub mod Leftover
+pub mod Asides
 pub mod Choosing
 pub mod Judging

@@ -4,6 +4,8 @@
 pub mod auditing;
 pub mod choice;
 pub mod fault;
+pub mod left;
+pub mod numbers;
 pub mod rows;
 pub mod search;
 pub mod splits;

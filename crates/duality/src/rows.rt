@@ -1,7 +1,7 @@
 // Rows against a state, and against one another.
 ghost use Rattle.std.specs.Prelude.{◌≡◌, map, Decides};
 ghost use Rattle.systems.specs.States.{up};
-ghost use Rattle.systems.specs.Systems.{Works, Fails};
+ghost use Rattle.systems.specs.Systems.{Fails};
 ghost use Rattle.tables.specs.Memory.{meant};
 ghost use Rattle.duality.specs.Shares.{is_within, is_apart};
 
@@ -28,20 +28,6 @@ fn are_apart<K: SetKind>(row: &Row<K>, other: &Row<K>) -> bool
     ensures { result ≡ is_apart (meant K.mem row.now) (meant K.mem other.now) }
 {
     row.set().apart(other.set())
-}
-
-// Whether some path is up.
-pub(crate) fn works<K: SetKind>(paths: &[Row<K>], state: &State) -> bool
-    ensures { Decides result (Works (map (meant K.mem) paths.now) (up state.now)) }
-{
-    paths.iter().any(|row| is_up(row, state))
-}
-
-// Whether some cut is down.
-pub(crate) fn fails<K: SetKind>(cuts: &[Row<K>], state: &State) -> bool
-    ensures { Decides result (Fails (map (meant K.mem) cuts.now) (up state.now)) }
-{
-    cuts.iter().any(|row| is_down(row, state))
 }
 
 // Whether some cut has no item of the row.

@@ -1,6 +1,7 @@
 // A search for the states that two tables miss, which can go on after it has shown one.
 use crate::choice::share;
-use crate::rows::{fails, is_down, is_up, works};
+use crate::left::Left;
+use crate::rows::{is_down, is_up};
 use crate::splits::Splits;
 use crate::tally::Tally;
 use sets::SetKind;
@@ -16,13 +17,14 @@ pub struct Search {
 }
 
 impl Search {
-    ghost use Rattle.std.specs.Prelude.{◌≡◌, ℕ, ◌≤◌, true, false, not, ◌&&◌, ◌⊎◌, List, [], map, Decides, MatchOption, ◌≢◌};
+    ghost use Rattle.std.specs.Prelude.{◌≡◌, ℕ, ◌+◌, ◌≤◌, not, ◌&&◌, ◌||◌, List, [], length, map, MatchOption};
+    ghost use Rattle.std.specs.List.{list_any};
     ghost use Rattle.sets.specs.Sets.{Numbers, Within};
     ghost use Rattle.systems.specs.States.{up};
-    ghost use Rattle.systems.specs.Systems.{Works, Fails};
     ghost use Rattle.tables.specs.Memory.{meant};
     ghost use Rattle.duality.specs.Halves.{opened, backed};
-    ghost use Rattle.duality.specs.Shares.{Tallied, Chosen, left_paths, left_cuts};
+    ghost use Rattle.duality.specs.Shares.{Tallied, Chosen, left_paths, left_cuts, is_within, is_apart};
+    ghost use Rattle.duality.specs.Remaining.{Fits, Sifted, standing};
     ghost use Rattle.duality.specs.Searches.{Stands, Behind, AllCovered, MissedState};
 
     // A search among the states of n items, of which there are at most 256.
@@ -44,46 +46,57 @@ impl Search {
         ensures behind { (n : ℕ) → Stands n self.old → Behind n (map (meant K.mem) paths.now) (map (meant K.mem) cuts.now) self.old → Behind n (map (meant K.mem) paths.now) (map (meant K.mem) cuts.now) self.new }
         ensures found { (n : ℕ) → Stands n self.old → MatchOption result (Behind n (map (meant K.mem) paths.now) (map (meant K.mem) cuts.now) self.old → AllCovered n (map (meant K.mem) paths.now) (map (meant K.mem) cuts.now)) (MissedState n (map (meant K.mem) paths.now) (map (meant K.mem) cuts.now)) }
     {
+        let mut left_paths = Left::new(paths);
+        let mut left_cuts = Left::new(cuts);
         'halves: loop {
-            if self.is_closed(paths, cuts) {
-                if !self.back() {
-                    return None;
-                }
+            if self.is_closed(&left_paths, &left_cuts) {
+                let split = self.back()?;
+                left_paths.go_back(split);
+                left_cuts.go_back(split);
             } else {
-                let left_paths = self.left_paths(paths);
-                if left_paths.rows == 0 {
+                let path_tally = self.sift_paths(&mut left_paths);
+                if path_tally.rows == 0 {
                     return Some(self.high);
                 }
-                let left_cuts = self.left_cuts(cuts);
-                if left_cuts.rows == 0 {
+                let cut_tally = self.sift_cuts(&mut left_cuts);
+                if cut_tally.rows == 0 {
                     return Some(self.low);
                 }
-                let item = self.choose(&left_paths, &left_cuts)?;
+                let item = self.choose(&path_tally, &cut_tally)?;
+                let split = self.splits.count();
                 self.splits.push(item)?;
+                left_paths.keep(split);
+                left_cuts.keep(split);
                 self.low.set(item, true);
             }
         }
     }
 
-    // Whether the half being tried is closed: a path is wholly up, or a cut wholly down.
-    fn is_closed<K: SetKind>(&self, paths: &[Row<K>], cuts: &[Row<K>]) -> bool
-        ensures { Decides result (Works (map (meant K.mem) paths.now) (up self.now.low) ⊎ Fails (map (meant K.mem) cuts.now) (up self.now.high)) }
+    // Whether the half being tried is closed: of the rows that may be left, a path is wholly up, or a cut wholly down.
+    fn is_closed<K: SetKind>(&self, paths: &Left<'_, K>, cuts: &Left<'_, K>) -> bool
+        requires paths { Fits paths.now }
+        requires cuts { Fits cuts.now }
+        ensures { result ≡ (list_any (λ p. is_within p (up self.now.low)) (standing K.mem paths.now paths.now.count) || list_any (λ c. is_apart c (up self.now.high)) (standing K.mem cuts.now cuts.now.count)) }
     {
-        works(paths, &self.low) || fails(cuts, &self.high)
+        paths.any(|row| is_up(row, &self.low)) || cuts.any(|row| is_down(row, &self.high))
     }
 
-    // The paths that have no item down in the half.
-    fn left_paths<K: SetKind>(&self, paths: &[Row<K>]) -> Tally
-        ensures { Tallied (left_paths (map (meant K.mem) paths.now) (up self.now.high)) result }
+    // Drops the paths that have an item down in the half, and tallies the others.
+    fn sift_paths<K: SetKind>(&self, paths: &mut Left<'_, K>) -> Tally
+        requires { Fits paths.old }
+        ensures sifted { Sifted K.mem (λ p. is_within p (up self.now.high)) paths.old paths.new }
+        ensures tallied { Tallied (left_paths (standing K.mem paths.old paths.old.count) (up self.now.high)) result }
     {
-        Tally::of(paths, |row| is_up(row, &self.high))
+        paths.sift(|row| is_up(row, &self.high))
     }
 
-    // The cuts that have no item up in the half.
-    fn left_cuts<K: SetKind>(&self, cuts: &[Row<K>]) -> Tally
-        ensures { Tallied (left_cuts (map (meant K.mem) cuts.now) (up self.now.low)) result }
+    // Drops the cuts that have an item up in the half, and tallies the others.
+    fn sift_cuts<K: SetKind>(&self, cuts: &mut Left<'_, K>) -> Tally
+        requires { Fits cuts.old }
+        ensures sifted { Sifted K.mem (λ c. is_apart c (up self.now.low)) cuts.old cuts.new }
+        ensures tallied { Tallied (left_cuts (standing K.mem cuts.old cuts.old.count) (up self.now.low)) result }
     {
-        Tally::of(cuts, |row| is_down(row, &self.low))
+        cuts.sift(|row| is_down(row, &self.low))
     }
 
     // Whether the item is undecided: down in `low` and up in `high`.
@@ -110,23 +123,22 @@ impl Search {
         best.map(|(item, _)| item)
     }
 
-    // Leaves a closed half: back to the last split that is in its first half, and on to its second. False if no split is.
-    fn back(&mut self) -> bool
+    // Leaves a closed half: back to the last split that is in its first half, and on to its second. None if no split is.
+    fn back(&mut self) -> Option<usize>
         ensures stands { (n : ℕ) → Stands n self.old → Stands n self.new }
         ensures back { opened self.new.splits ≡ backed (opened self.old.splits) }
-        ensures more { result ≡ true → opened self.new.splits ≢ [] }
-        ensures done { result ≡ false → opened self.new.splits ≡ [] }
+        ensures split { MatchOption result (opened self.new.splits ≡ []) (λ split. length (opened self.new.splits) ≡ split + 1) }
     {
         while let Some(frame) = self.splits.last() {
             self.low.set(frame.item, false);
             if frame.up {
                 self.high.set(frame.item, false);
                 self.splits.turn_last();
-                return true;
+                return Some(self.splits.count() - 1);
             }
             self.high.set(frame.item, true);
             self.splits.pop();
         }
-        false
+        None
     }
 }

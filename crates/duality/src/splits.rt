@@ -42,6 +42,13 @@ impl Splits {
         }
     }
 
+    // How many there are.
+    pub(crate) fn count(&self) -> usize
+        ensures { result ≡ length (opened self.now) }
+    {
+        self.depth
+    }
+
     // One split more, in its first half. None where the stack is full.
     pub(crate) fn push(&mut self, item: usize) -> Option<()>
         ensures { MatchOption result (256 ≤ length (opened self.old)) (λ _. opened self.new ≡ record { item = item; up = true } ∷ opened self.old) }

@@ -1,5 +1,5 @@
-use Rattle.std.proofs.Common.{◌≡◌, ℕ, ◌<◌, true, false, List, ◌∷◌, sym, ap, ◌∙◌, subst, arith}
-use Rattle.std.proofs.lemmas.Bool.{cond-true, cond-false, true≢false}
+use Rattle.std.proofs.Common.{◌≡◌, ◌<◌, true, false, List, ◌∷◌, length, sym, ap, ◌∙◌, subst, arith}
+use Rattle.std.proofs.lemmas.Bool.{cond-true, cond-false}
 use Rattle.duality.specs.Halves.{opened, turned, backed, Half}
 use Rattle.duality.specs.declared.splits.Frame.{Frame}
 use Rattle.duality.proofs.Halving.{marks_in, half_turn, half_pop}
@@ -22,8 +22,7 @@ returns-then-frame c =
           (marks_in s.low c.set.new.self f.item false low c.set.ensures.count c.set.ensures.marks)
           (marks_in s.high c.set-then-frame.new.self f.item false high c.set-then-frame.ensures.count c.set-then-frame.ensures.marks));
       back = then ∙ sym (cond-true f.up (turned f ∷ fs) (backed fs) c.if-frame.true) ∙ sym (ap backed e) ∙ c.loop-frame.invariant.1;
-      more = λ _ z. let q : ◌≡◌ {A = ℕ} 0 1 = cc (then, z) in omega arith;
-      done = λ q. absurd (true≢false q);
+      split = omega (arith, c.count.ensures, ap length then);
     }
 
 pub loop-frame-preserved : goal.loop-frame-preserved

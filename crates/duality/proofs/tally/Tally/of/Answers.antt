@@ -37,5 +37,8 @@ loop-row-preserved g c =
           })
     ]
 
-pub returns : goal.returns
-returns g c test h = rw (take_all c.loop-row.row-index (map (meant g.K.SetKind.mem) c.args.rows.now) (simp length-map (omega arith))) at (c.loop-row.invariant.left test h)
+pub returns-clause-few : goal.returns-clause-few
+returns-clause-few g c = let so_far = c.loop-row.invariant.some in (so_far.0, so_far.1, omega (arith, so_far.2))
+
+pub returns-clause-left : goal.returns-clause-left
+returns-clause-left g c test h = rw (take_all c.loop-row.row-index (map (meant g.K.SetKind.mem) c.args.rows.now) (simp length-map (omega arith))) at (c.loop-row.invariant.left test h)

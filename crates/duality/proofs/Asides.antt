@@ -1,0 +1,253 @@
+-- The rows that a search has dropped are left in no half below the split at which they were.
+use Rattle.std.proofs.Common.{◌≡◌, ℕ, zero, suc, ◌+◌, ◌<◌, ◌≤◌, Bool, true, false, cond, not, ◌&&◌, ◌||◌, ◌⊎◌, List, [], ◌∷◌, map, length, get_or, set, filter, eqb, sym, refl, ap, ◌∙◌, subst, inl, inr, ⊎_elim, arith, nat_lt, Decides}
+use Rattle.std.specs.List.{list_any, count_by}
+use Rattle.std.proofs.lemmas.Bool.{true≢false, false≢true, cond_both, eqb-true, lt-ltb}
+use Rattle.std.proofs.lemmas.List.{get_or-set_same, get_or-set_other}
+use Rattle.std.proofs.lemmas.List.Sums.{sum_by-cons, length-filter}
+use Rattle.sets.specs.Sets.{Numbers, Below, within_below}
+use Rattle.systems.specs.States.{up}
+use Rattle.systems.specs.Systems.{Works, Fails}
+use Rattle.systems.specs.declared.state.State.{State}
+use Rattle.tables.specs.Memory.{meant}
+use Rattle.tables.specs.declared.row.Row.{Row}
+use Rattle.duality.specs.Halves.{turned, backed, least, greatest, Fresh, Half}
+use Rattle.duality.specs.Shares.{Tallied, having, is_within, is_apart, left_paths, left_cuts}
+use Rattle.duality.specs.Remaining.{Alike, Stronger, any_row, Sifted, kept, gone_back, standing}
+use Rattle.duality.specs.declared.splits.Frame.{Frame}
+use Rattle.duality.specs.declared.left.Left.{Left}
+use Rattle.duality.specs.declared.tally.Tally.{Tally}
+use Rattle.duality.proofs.Sifting.{alike_then, alike_under, any_map}
+use Rattle.duality.proofs.RowFacts.{decides_works, decides_fails}
+
+-- ---- which rows are left in the half of some splits
+abbrev pub left_path : ℕ → List Frame → Numbers → Bool
+left_path n fs r = is_within r (greatest n fs)
+
+abbrev pub left_cut : List Frame → Numbers → Bool
+left_cut fs r = is_apart r (least fs)
+
+either : (a b c : Bool) → (b ≡ true → c ≡ true) → (not a || b) ≡ true → (not a || c) ≡ true
+either true b c h e = h e
+either false b c h e = refl
+
+each : (x y z w : Bool) → (x ≡ true → y ≡ true) → (z ≡ true → w ≡ true) → (x && z) ≡ true → (y && w) ≡ true
+each true y z w h k e = rw (h refl) (k e)
+each false y z w h k e = absurd (false≢true e)
+
+more_within : (m : ℕ) (r s t : Numbers) → ((k : ℕ) → s k ≡ true → t k ≡ true) → within_below m r s ≡ true → within_below m r t ≡ true
+more_within zero r s t h e = refl
+more_within (suc m) r s t h e = each (not (r m) || s m) (not (r m) || t m) (within_below m r s) (within_below m r t) (either (r m) (s m) (t m) (h m)) (more_within m r s t h) e
+
+stronger_within : (s t : Numbers) → ((k : ℕ) → s k ≡ true → t k ≡ true) → Stronger (λ r. is_within r s) (λ r. is_within r t)
+unfolding is_within
+stronger_within s t h r e = more_within 256 r s t h e
+
+stronger_apart : (s t : Numbers) → ((k : ℕ) → t k ≡ true → s k ≡ true) → Stronger (λ r. is_apart r s) (λ r. is_apart r t)
+unfolding is_apart
+stronger_apart s t h r e = more_within 256 r (λ k. not (s k)) (λ k. not (t k)) (λ k p. other (s k) (t k) (h k) p) e where
+  other : (a b : Bool) → (b ≡ true → a ≡ true) → not a ≡ true → not b ≡ true
+  other true b i p = absurd (true≢false (sym p))
+  other false true i p = absurd (false≢true (i refl))
+  other false false i p = refl
+
+-- ---- the half of some splits, and that of one more
+lows_high : (n : ℕ) (fs : List Frame) (k : ℕ) → least fs k ≡ true → greatest n fs k ≡ true
+lows_high n [] k e = absurd (false≢true e)
+lows_high n (f ∷ fs) k e = go (lows_high n fs k) (eqb k f.item) e where
+  go : (least fs k ≡ true → greatest n fs k ≡ true) → (b : Bool) → cond b f.up (least fs k) ≡ true → cond b f.up (greatest n fs k) ≡ true
+  go h true i = i
+  go h false i = h i
+
+module _ (n : ℕ) (f : Frame) (fs : List Frame) (fresh : Fresh n (f ∷ fs)) where
+  pub path_narrower : Stronger (left_path n (f ∷ fs)) (left_path n fs)
+  path_narrower =
+      stronger_within (greatest n (f ∷ fs)) (greatest n fs)
+      (λ k. cond_both (eqb k f.item) f.up (greatest n fs k) (λ v. v ≡ true → greatest n fs k ≡ true) (λ e _. ap (greatest n fs) (eqb-true k f.item e) ∙ fresh.2) (λ _ h. h))
+
+  pub cut_narrower : Stronger (left_cut (f ∷ fs)) (left_cut fs)
+  cut_narrower =
+      stronger_apart (least (f ∷ fs)) (least fs)
+      (λ k. cond_both (eqb k f.item) f.up (least fs k) (λ v. least fs k ≡ true → v ≡ true) (λ e h. absurd (false≢true (sym fresh.1 ∙ ap (least fs) (sym (eqb-true k f.item e)) ∙ h))) (λ _ h. h))
+
+module _ (n : ℕ) (fs : List Frame) (low high : State) (h : Half n fs low high) where
+  pub path_here : Stronger (left_path n fs) (λ r. is_within r (up high))
+  path_here = stronger_within (greatest n fs) (up high) (λ k e. h.highs k ∙ e)
+
+  path_there : Stronger (λ r. is_within r (up high)) (left_path n fs)
+  path_there = stronger_within (up high) (greatest n fs) (λ k e. sym (h.highs k) ∙ e)
+
+  -- a path that is up in the least state of the half is left in it
+  path_up : Stronger (λ r. is_within r (up low)) (left_path n fs)
+  path_up = stronger_within (up low) (greatest n fs) (λ k e. lows_high n fs k (sym (h.lows k) ∙ e))
+
+  pub cut_here : Stronger (left_cut fs) (λ r. is_apart r (up low))
+  cut_here = stronger_apart (least fs) (up low) (λ k e. sym (h.lows k) ∙ e)
+
+  cut_there : Stronger (λ r. is_apart r (up low)) (left_cut fs)
+  cut_there = stronger_apart (up low) (least fs) (λ k e. h.lows k ∙ e)
+
+  -- and a cut that is down in the greatest
+  cut_down : Stronger (λ r. is_apart r (up high)) (left_cut fs)
+  cut_down = stronger_apart (up high) (least fs) (λ k e. h.highs k ∙ lows_high n fs k e)
+
+-- ---- what is said of the rows that stand holds of all
+filter_both : (p q : Numbers → Bool) (xs : List Numbers) → filter q (filter p xs) ≡ filter (λ x. p x && q x) xs
+filter_both p q [] = refl
+filter_both p q (x ∷ xs) = go (filter_both p q xs) (p x) where
+  go : filter q (filter p xs) ≡ filter (λ y. p y && q y) xs → (b : Bool) → filter q (cond b (x ∷ filter p xs) (filter p xs)) ≡ cond (b && q x) (x ∷ filter (λ y. p y && q y) xs) (filter (λ y. p y && q y) xs)
+  go e true = ap (λ l. cond (q x) (x ∷ l) l) e
+  go e false = e
+
+first_true : (a b : Bool) → (a && b) ≡ true → a ≡ true
+first_true true b e = refl
+first_true false b e = absurd (false≢true e)
+
+module _ {test : Numbers → Bool} {all some : List Numbers} (h : Alike test all some) where
+  as_many : (q : Numbers → Bool) → Stronger q test → length (filter q some) ≡ length (filter q all)
+  as_many q s = length-filter q some ∙ sym (h.alike q s) ∙ sym (length-filter q all)
+
+  tallied_all : {t : Tally} → Tallied (filter test some) t → Tallied (filter test all) t
+  unfolding having
+  tallied_all {t} k = record {
+    count = k.count ∙ as_many test (λ r e. e);
+    each = λ i.
+        let q : Numbers → Bool = λ r. r i in
+        k.each i
+        ∙ ap length (filter_both test q some)
+        ∙ as_many (λ r. test r && r i) (λ r. first_true (test r) (r i))
+        ∙ ap length (sym (filter_both test q all));
+  }
+
+  one_counts : (b a : Bool) (m : ℕ) → a ≡ nat_lt 0 m → (b || a) ≡ nat_lt 0 (cond b 1 0 + m)
+  one_counts true a m e = sym (lt-ltb 0 (1 + m) (omega arith))
+  one_counts false a m e = e ∙ ap (nat_lt 0) (omega arith)
+
+  counted : (q : Numbers → Bool) (xs : List Numbers) → list_any q xs ≡ nat_lt 0 (count_by q xs)
+  counted q [] = refl
+  counted q (x ∷ xs) = one_counts (q x) (list_any q xs) (count_by q xs) (counted q xs) ∙ ap (nat_lt 0) (sym (sum_by-cons (λ y. cond (q y) 1 0) x xs))
+
+  any_all : (q : Numbers → Bool) → Stronger q test → list_any q some ≡ list_any q all
+  any_all q s = counted q some ∙ ap (nat_lt 0) (sym (h.alike q s)) ∙ sym (counted q all)
+
+-- ---- the rows that are kept for each open split
+
+-- the first c of them now, and for each split as many as its count says
+abbrev pub KeptFor : (List Frame → Numbers → Bool) → List Numbers → (ℕ → List Numbers) → List ℕ → ℕ → List Frame → Type 0
+KeptFor A all part counts c [] = Unit {0}
+KeptFor A all part counts c (f ∷ fs) =
+    (c ≤ get_or counts (length fs) 0) × Alike (A fs) all (part (get_or counts (length fs) 0)) × KeptFor A all part counts (get_or counts (length fs) 0) fs
+
+pub record Aside (A : List Frame → Numbers → Bool) (all : List Numbers) (part : ℕ → List Numbers) (counts : List ℕ) (c : ℕ) (fs : List Frame) : Type 0 where
+  pub here : Alike (A fs) all (part c)
+  pub before : KeptFor A all part counts c fs
+
+module _ (A : List Frame → Numbers → Bool) (all : List Numbers) where
+  any_stronger : (q : Numbers → Bool) → Stronger q any_row
+  any_stronger q r e = refl
+
+  kept_start : (part : ℕ → List Numbers) (counts : List ℕ) (c : ℕ) → Alike any_row all (part c) → ((i : ℕ) → i < 256 → get_or counts i 0 ≡ c) → (b : ℕ) → b ≡ c → (fs : List Frame) → length fs ≤ 256 → KeptFor A all part counts b fs
+  kept_start part counts c h e b same [] few = tt
+  kept_start part counts c h e b same (f ∷ fs) few =
+      let at' = e (length fs) (omega arith) in (
+        omega arith,
+        subst (λ m. Alike (A fs) all (part m)) (sym at') (alike_under (any_stronger (A fs)) h),
+        kept_start part counts c h e (get_or counts (length fs) 0) at' fs (omega arith),
+      )
+
+  pub aside_start : (part : ℕ → List Numbers) (counts : List ℕ) (c : ℕ) → Alike any_row all (part c) → ((i : ℕ) → i < 256 → get_or counts i 0 ≡ c) → (fs : List Frame) → length fs ≤ 256 → Aside A all part counts c fs
+  aside_start part counts c h e fs few = record { here = alike_under (any_stronger (A fs)) h; before = kept_start part counts c h e c refl fs few }
+
+  kept_sifted : (part part' : ℕ → List Numbers) (counts : List ℕ) (c d e : ℕ) → e ≤ d → c ≤ d → ((b : ℕ) → c ≤ b → Alike any_row (part b) (part' b)) → (fs : List Frame) → KeptFor A all part counts d fs → KeptFor A all part' counts e fs
+  kept_sifted part part' counts c d e le lo others [] k = tt
+  kept_sifted part part' counts c d e le lo others (f ∷ fs) k =
+      let at' = get_or counts (length fs) 0 in (
+        omega (arith, k.0),
+        alike_then k.1 (alike_under (any_stronger (A fs)) (others at' (omega (arith, k.0)))),
+        kept_sifted part part' counts c at' at' (omega arith) (omega (arith, k.0)) others fs k.2,
+      )
+
+  aside_sifted : (part part' : ℕ → List Numbers) (counts : List ℕ) (c c' : ℕ) (fs : List Frame) → c' ≤ c → ((b : ℕ) → c ≤ b → Alike any_row (part b) (part' b)) → Alike (A fs) (part c) (part' c') → Aside A all part counts c fs → Aside A all part' counts c' fs
+  aside_sifted part part' counts c c' fs le others h k = record { here = alike_then k.here h; before = kept_sifted part part' counts c c c' le (omega arith) others fs k.before }
+
+  kept_set : (part : ℕ → List Numbers) (counts : List ℕ) (i v c : ℕ) (fs : List Frame) → length fs ≤ i → KeptFor A all part counts c fs → KeptFor A all part (set counts i v) c fs
+  kept_set part counts i v c [] few k = tt
+  kept_set part counts i v c (f ∷ fs) few k =
+      let at' : get_or (set counts i v) (length fs) 0 ≡ get_or counts (length fs) 0 = get_or-set_other counts i (length fs) v 0 (λ e. omega arith) in
+      subst (λ m. (c ≤ m) × Alike (A fs) all (part m) × KeptFor A all part (set counts i v) m fs) (sym at') (k.0, k.1, kept_set part counts i v (get_or counts (length fs) 0) fs (omega arith) k.2)
+
+  aside_push : (part : ℕ → List Numbers) (counts : List ℕ) (c : ℕ) (f : Frame) (fs : List Frame) → length fs < length counts → Stronger (A (f ∷ fs)) (A fs) → Aside A all part counts c fs → Aside A all part (set counts (length fs) c) c (f ∷ fs)
+  aside_push part counts c f fs lt narrower k = record {
+    here = alike_under narrower k.here;
+    before =
+        let at' : get_or (set counts (length fs) c) (length fs) 0 ≡ c = get_or-set_same counts (length fs) c 0 lt in
+        subst (λ m. (c ≤ m) × Alike (A fs) all (part m) × KeptFor A all part (set counts (length fs) c) m fs) (sym at') (omega arith, k.here, kept_set part counts (length fs) c c fs (omega arith) k.before);
+  }
+
+  kept_less : (part : ℕ → List Numbers) (counts : List ℕ) (c d : ℕ) (fs : List Frame) → d ≤ c → KeptFor A all part counts c fs → KeptFor A all part counts d fs
+  kept_less part counts c d [] le k = tt
+  kept_less part counts c d (f ∷ fs) le k = (omega (arith, k.0), k.1, k.2)
+
+  kept_back : (part : ℕ → List Numbers) (counts : List ℕ) (c : ℕ) (fs : List Frame) → KeptFor A all part counts c fs → KeptFor A all part counts c (backed fs)
+  kept_back part counts c [] k = tt
+  kept_back part counts c (f ∷ fs) k =
+      cond_both f.up (turned f ∷ fs) (backed fs) (KeptFor A all part counts c)
+      (λ _. k)
+      (λ _. kept_back part counts c fs (kept_less part counts (get_or counts (length fs) 0) c fs k.0 k.2))
+
+  aside_back : (part : ℕ → List Numbers) (counts : List ℕ) (c d : ℕ) (fs gs : List Frame) → Aside A all part counts c fs → gs ≡ backed fs → length gs ≡ d + 1 → ((f : Frame) (rest : List Frame) → gs ≡ f ∷ rest → Stronger (A (f ∷ rest)) (A rest)) → Aside A all part counts (get_or counts d 0) gs
+  aside_back part counts c d fs gs k e long narrower = go gs (subst (KeptFor A all part counts c) (sym e) (kept_back part counts c fs k.before)) long narrower where
+    go : (gs : List Frame) → KeptFor A all part counts c gs → length gs ≡ d + 1 → ((f : Frame) (rest : List Frame) → gs ≡ f ∷ rest → Stronger (A (f ∷ rest)) (A rest)) → Aside A all part counts (get_or counts d 0) gs
+    go [] q l w = absurd (omega arith)
+    go (f ∷ rest) q l w =
+        let same : length rest ≡ d = omega arith in
+        subst (λ i. Aside A all part counts (get_or counts i 0) (f ∷ rest)) same (record {
+          here = alike_under (w f rest refl) q.1;
+          before = (omega arith, q.1, q.2);
+        })
+
+-- ---- the same of the rows that stand in a `Left`
+abbrev pub AsideOf : {X : Type 0} → (X → Numbers) → List Numbers → (List Frame → Numbers → Bool) → Left X → List Frame → Type 0
+AsideOf mem all A left fs = Aside A all (standing mem left) left.counts left.count fs
+
+module _ {X : Type 0} (mem : X → Numbers) (all : List Numbers) (A : List Frame → Numbers → Bool) where
+  pub left_sifted : (test : Numbers → Bool) (before after : Left X) (fs : List Frame) → Sifted mem test before after → Stronger (A fs) test → AsideOf mem all A before fs → AsideOf mem all A after fs
+  left_sifted test before after fs s w k =
+      subst (λ counts. Aside A all (standing mem after) counts after.count fs) (sym s.counts)
+      (aside_sifted A all (standing mem before) (standing mem after) before.counts before.count after.count fs s.fewer s.others (alike_under w s.left) k)
+
+  pub left_kept : (left after : Left X) (f : Frame) (fs gs : List Frame) → after ≡ kept left (length fs) → gs ≡ f ∷ fs → length fs < length left.counts → Stronger (A (f ∷ fs)) (A fs) → AsideOf mem all A left fs → AsideOf mem all A after gs
+  unfolding standing
+  left_kept left after f fs gs e i lt w k =
+      subst (λ hs. AsideOf mem all A after hs) (sym i)
+      (subst (λ l. AsideOf mem all A l (f ∷ fs)) (sym e) (aside_push A all (standing mem left) left.counts left.count f fs lt w k))
+
+  pub left_back : (left after : Left X) (split : ℕ) (fs gs : List Frame) → after ≡ gone_back left split → gs ≡ backed fs → length gs ≡ split + 1 → ((f : Frame) (rest : List Frame) → gs ≡ f ∷ rest → Stronger (A (f ∷ rest)) (A rest)) → AsideOf mem all A left fs → AsideOf mem all A after gs
+  unfolding standing
+  left_back left after split fs gs e i long w k =
+      subst (λ l. AsideOf mem all A l gs) (sym e) (aside_back A all (standing mem left) left.counts left.count split fs gs k i long w)
+
+-- ---- what the rows that stand tell of a half
+either_decides : {A B : Type 0} (a b : Bool) → Decides a A → Decides b B → Decides (a || b) (A ⊎ B)
+either_decides true b p q = ((λ _. inl (p.0 refl)), λ _. refl)
+either_decides false b p q = ((λ e. inr (q.0 e)), (λ s. ⊎_elim (λ w. absurd (false≢true (p.1 w))) (λ d. q.1 d) s))
+
+module _ {X : Type 0} (mem : X → Numbers) (low256 : (x : X) → Below 256 (mem x)) (paths cuts : List (Row X)) (n : ℕ) (fs : List Frame) (low high : State) (h : Half n fs low high) (some_paths some_cuts : Left X)
+    (ps : AsideOf mem (map (meant mem) paths) (left_path n) some_paths fs) (cs : AsideOf mem (map (meant mem) cuts) left_cut some_cuts fs) where
+  -- whether it is closed
+  pub decides_closed : (closed : Bool) → closed ≡ (list_any (λ p. is_within p (up low)) (standing mem some_paths some_paths.count) || list_any (λ c. is_apart c (up high)) (standing mem some_cuts some_cuts.count))
+      → Decides closed (Works (map (meant mem) paths) (up low) ⊎ Fails (map (meant mem) cuts) (up high))
+  decides_closed closed e =
+      let p : Numbers → Bool = λ r. is_within r (up low) in
+      let q : Numbers → Bool = λ r. is_apart r (up high) in
+      let works = decides_works (meant mem) paths (λ x. low256 x.set) (up low) (list_any p (standing mem some_paths some_paths.count)) (any_all ps.here p (path_up n fs low high h) ∙ any_map p (meant mem) paths) in
+      let fails = decides_fails (meant mem) cuts (λ x. low256 x.set) (up high) (list_any q (standing mem some_cuts some_cuts.count)) (any_all cs.here q (cut_down n fs low high h) ∙ any_map q (meant mem) cuts) in
+      subst (λ b. Decides b (Works (map (meant mem) paths) (up low) ⊎ Fails (map (meant mem) cuts) (up high))) (sym e) (either_decides _ _ works fails)
+
+  -- the tallies are of all rows that are left
+  pub tallied_paths : {t : Tally} → Tallied (left_paths (standing mem some_paths some_paths.count) (up high)) t → Tallied (left_paths (map (meant mem) paths) (up high)) t
+  unfolding left_paths
+  tallied_paths k = tallied_all (alike_under (path_there n fs low high h) ps.here) k
+
+  pub tallied_cuts : {t : Tally} → Tallied (left_cuts (standing mem some_cuts some_cuts.count) (up low)) t → Tallied (left_cuts (map (meant mem) cuts) (up low)) t
+  unfolding left_cuts
+  tallied_cuts k = tallied_all (alike_under (cut_there n fs low high h) cs.here) k
