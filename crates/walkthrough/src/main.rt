@@ -3,11 +3,13 @@
 
 mod bridge;
 mod cooling;
+mod sheet;
 mod show;
 
 use std::io;
 
 fn main(rt: HostRuntime) -> io::Result<()> {
+    sheet::read(&rt)?;
     bridge::typed(&rt)?;
     bridge::wrong_count(&rt)?;
     bridge::drawn(&rt)?;

@@ -2,7 +2,7 @@
 ghost use Rattle.std.specs.Iterator.{IsFinite};
 
 use completion::{Answer, Call, Refused, Reply, replay};
-use duality::Verdict;
+use duality::{Verdict, audit};
 use sets::SetKind;
 use std::alloc::{AllocError, Global};
 use std::fmt::Display;
@@ -132,6 +132,15 @@ fn replied(rt: &impl Print, reply: &Reply) -> io::Result<()> {
     }
 }
 
+// Audits two tables.
+pub fn audited<K: SetKind>(rt: &impl Print, paths: &Table<K>, cuts: &Table<K>) -> io::Result<()> {
+    print!(rt; "audit: ")?;
+    match audit(paths, cuts) {
+        Ok(verdict) => said(rt, &verdict),
+        Err(fault) => refused(rt, fault.number(), &fault),
+    }
+}
+
 // A verdict, with the items that are up and those that are down in the state that it shows.
 fn said(rt: &impl Print, verdict: &Verdict) -> io::Result<()> {
     let state = verdict.shown();
@@ -146,7 +155,7 @@ fn said(rt: &impl Print, verdict: &Verdict) -> io::Result<()> {
 }
 
 // A refusal: its number, and what it means.
-fn refused(rt: &impl Print, number: usize, fault: &impl Display) -> io::Result<()> {
+pub fn refused(rt: &impl Print, number: usize, fault: &impl Display) -> io::Result<()> {
     println!(rt; "refused {number}: {fault}")
 }
 
@@ -160,7 +169,7 @@ fn not_made(rt: &impl Print, fault: &Refused) -> io::Result<()> {
 }
 
 // The rows of a table, as they stand in its memory.
-fn rows<K: SetKind>(
+pub fn rows<K: SetKind>(
     rt: &impl Print,
     name: &str,
     memory: &[Row<K>],

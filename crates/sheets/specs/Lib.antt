@@ -1,0 +1,12 @@
+pub mod Bytes
+pub mod Runs
+pub mod Lines
+pub mod Labels
+pub mod ItemsFaults
+pub mod Items
+pub mod Looks
+pub mod RowPuts
+pub mod RowsFaults
+pub mod Rows
+pub mod Skips
+pub mod RowsCalls

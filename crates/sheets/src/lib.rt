@@ -1,0 +1,20 @@
+// Sheet texts: items and their labels, and the rows of two tables, read from text and written to it.
+#![tactic(auto)]
+
+pub mod items;
+pub mod items_fault;
+pub mod line;
+pub mod look;
+pub mod place;
+pub mod putting;
+pub mod round_trip;
+pub mod rows;
+pub mod rows_fault;
+pub mod skipping;
+pub mod split;
+
+pub use items::read_items;
+pub use items_fault::ItemsFault;
+pub use place::LabelPlace;
+pub use rows::read_rows;
+pub use rows_fault::RowsFault;
