@@ -101,6 +101,44 @@ fn long_text(alloc: Global, last: &[u8]) -> Result<Vec<u8>, AllocError> {
     Ok(text)
 }
 
+// Reads the rows of a text into tables that were opened for so many items each.
+fn fit(
+    rt: &(impl Print + AllocGlobal),
+    paths: usize,
+    cuts: usize,
+    text: &[u8],
+    labels: &[LabelPlace],
+) -> io::Result<()> {
+    let mut path_memory = row_places::<WordSet>(rt.alloc())?;
+    let mut cut_memory = row_places::<WordSet>(rt.alloc())?;
+    let mut path_table = Table::open(path_memory.as_mut_slice(), paths);
+    let mut cut_table = Table::open(cut_memory.as_mut_slice(), cuts);
+    print!(rt; "  {paths} items, {cuts} items, {} labels: ", labels.len())?;
+    match read_rows(text, labels, &mut path_table, &mut cut_table) {
+        Ok(()) => println!(rt; "rows read"),
+        Err(fault) => println!(rt; "refused {}: {fault}", fault.number()),
+    }
+}
+
+// The second call alone: tables and labels that do not fit, and label places with other contents.
+fn fits(rt: &(impl Print + AllocGlobal)) -> io::Result<()> {
+    let text = b"ITEM not judged\nITEM\nPATH AB\n".as_slice();
+    let within = LabelPlace { start: 26, len: 2 };
+    let outside = LabelPlace {
+        start: 26,
+        len: usize::MAX,
+    };
+    fit(rt, 0, 2, text, &[within, within])?;
+    fit(rt, 2, 65, text, &[within, within])?;
+    fit(rt, 2, 3, text, &[within, within])?;
+    fit(rt, 2, 2, text, &[within])?;
+    fit(rt, 2, 2, text, &[outside, within])?;
+    fit(rt, 2, 2, text, &[outside, outside])?;
+    let long = long_text(rt.alloc(), b" BB")?;
+    fit(rt, 2, 2, long.as_slice(), &[within])?;
+    fit(rt, 2, 2, long.as_slice(), &[within, within])
+}
+
 fn main(rt: HostRuntime) -> io::Result<()> {
     for name in env::args(&rt)?.skip(1) {
         println!(rt; "{}", name.as_str())?;
@@ -114,5 +152,6 @@ fn main(rt: HostRuntime) -> io::Result<()> {
         println!(rt; "a text of {} bytes", text.len())?;
         show(&rt, text.as_slice(), LABEL_PLACES)?;
     }
-    Ok(())
+    println!(rt; "the rows alone")?;
+    fits(&rt)
 }
