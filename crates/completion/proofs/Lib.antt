@@ -9,7 +9,6 @@ pub mod Additions
 pub mod Learning
 pub mod Tightenings
 pub mod Replied
-pub mod Keeping
 pub mod Filled
 pub mod Endings
 pub mod Counting

@@ -1,16 +1,15 @@
--- Whole runs: one more call behind a run, and what a run leaves in the two memories.
+-- Whole runs: one more call behind a run.
 use Rattle.std.proofs.Common.{◌≡◌, ℕ, ◌+◌, ◌<◌, ◌≤◌, List, [], ◌∷◌, ◌++◌, length, get_or, take, set, Result, sym, ap, ◌∙◌, subst, arith}
 use Rattle.std.proofs.lemmas.List.{take_more, take_more_set, take-append-le}
 use Rattle.sets.specs.Sets.{Numbers}
 use Rattle.sets.specs.declared.kind.SetKind.{Ghosts}
 use Rattle.systems.specs.Systems.{Structure}
-use Rattle.tables.specs.Memory.{meant, Standing, Beyond}
 use Rattle.tables.specs.Pasts.{Past}
 use Rattle.tables.specs.Pasts.Past.{opened}
-use Rattle.tables.specs.Tables.{places, Holds, Kept}
+use Rattle.tables.specs.Tables.{Holds, Left}
 use Rattle.tables.specs.declared.row.Row.{Row}
 use Rattle.tables.specs.declared.table.Table.{Table}
-use Rattle.completion.specs.Replays.{Left, Replays}
+use Rattle.completion.specs.Replays.{Replays}
 use Rattle.completion.specs.Runs.{Step, Run, none, next}
 use Rattle.completion.specs.declared.call.Call.{Call}
 use Rattle.completion.specs.declared.call.Answer.{Answer}
@@ -70,20 +69,6 @@ module _ {X : Type 0} {G : Ghosts X} {mem : X → Numbers} {holds : Numbers → 
           run = subst (λ (l : List (Result Answer Refused)). Run n P₀.capacity C₀.capacity holds drawings (take (i + 1) calls) [] [] l qs ds) (sym (take_more_set answers i answer answered))
               (subst (λ (l : List Call). Run n P₀.capacity C₀.capacity holds drawings l [] [] (take i answers ++ answer ∷ []) qs ds) (sym (take_more calls i d called)) run);
         }
-
--- a memory over which the table P₀ was opened, and in which P is at the end
-pub left : {X : Type 0} {G : Ghosts X} {mem : X → Numbers} {before after : List (Row X)} {P₀ P : Table X G} {n count : ℕ} {rows : List Numbers} (a : ℕ)
-    → P₀.capacity ≡ a → length (places P₀) ≡ length before → Beyond a before (places P₀) → Kept P₀ P → Holds mem P n rows → after ≡ places P → count ≡ P.count
-    → Left mem before after a count rows
-left {mem = mem} {before} {after} {P₀} {P} {n} {count} {rows} a capacity long rest kept held is many = record {
-  rows_stand =
-      let c : P.capacity ≡ a = kept.capacity ∙ capacity in
-      subst (λ (k : ℕ). Standing (meant mem) after k count rows) c
-      (subst (λ (k : ℕ). Standing (meant mem) after P.capacity k rows) (sym many)
-      (subst (λ (l : List (Row _)). Standing (meant mem) l P.capacity P.count rows) (sym is) held.standing));
-  same_length = ap length is ∙ kept.length ∙ long;
-  beyond = λ k d h. ap (λ l. get_or l k d) is ∙ kept.beyond k d (omega (arith, capacity)) ∙ rest k d h;
-}
 
 module _ {X : Type 0} {G : Ghosts X} {mem : X → Numbers} {holds : Numbers → Type 0} {drawings : List Structure} {calls : List Call} {answers : List (Result Answer Refused)} {P C : Table X G} {n made a₀ b₀ : ℕ} where
   pub replayed : {paths paths' cuts cuts' : List (Row X)} {m p q : ℕ} (a b : ℕ) (reached : Reached mem holds drawings calls answers made n a₀ b₀ P C) (rest : List (Result Answer Refused)) → made ≡ m → m ≤ length answers

@@ -5,10 +5,13 @@ use Rattle.sets.specs.declared.kind.SetKind.{Ghosts}
 use Rattle.tables.specs.Pasts.{Past}
 use Rattle.tables.specs.Tables.{Holds}
 use Rattle.tables.specs.declared.table.Table.{Table}
+use Rattle.duality.specs.declared.fault.PairFault.{PairFault}
 use Rattle.sheets.specs.Bytes.{Bytes}
+use Rattle.sheets.specs.Counts.{Counts, counts_fit}
 use Rattle.sheets.specs.Labels.{named}
 use Rattle.sheets.specs.Rows.{RowsRead}
-use Rattle.sheets.specs.RowsCalls.{Counts, counts_fit, RowsCall, not_fit, too_long, rows_read}
+use Rattle.sheets.specs.RowsCalls.{RowsCall, not_fit, too_long, rows_read}
+use Rattle.sheets.specs.RowsFaults.{unfit}
 use Rattle.sheets.specs.Skips.{Skipped}
 use Rattle.sheets.specs.declared.place.LabelPlace.{LabelPlace}
 use Rattle.sheets.specs.declared.rows_fault.RowsFault.{RowsFault}
@@ -27,10 +30,10 @@ Called mem holds text places P C r P' C' = (p c : ℕ) (ps cs : List Numbers) �
     × RowsCall p c P.capacity C.capacity holds text places ps cs r qs ds
 
 module _ {X : Type 0} {G : Ghosts X} (mem : X → Numbers) (holds : Numbers → Type 0) (none : holds nothing) (text : Bytes) (places : List LabelPlace) (P C : Table X G) where
-  counted : (r : Result (Unit {0}) RowsFault) (p c : ℕ) (ps cs : List Numbers) → Counts P.items C.items (length places) r → Holds mem P p ps → Holds mem C c cs → Counts p c (length places) r
+  counted : (r : Result (Unit {0}) PairFault) (p c : ℕ) (ps cs : List Numbers) → Counts P.items C.items (length places) r → Holds mem P p ps → Holds mem C c cs → Counts p c (length places) r
   counted r p c ps cs h hp hc = subst (λ (k : ℕ). Counts p k (length places) r) hc.items (subst (λ (k : ℕ). Counts k C.items (length places) r) hp.items h)
 
-  pub called_unfit : (fault : RowsFault) → Counts P.items C.items (length places) (Err fault) → Called mem holds text places P C (Err fault) P C
+  pub called_unfit : (fault : PairFault) → Counts P.items C.items (length places) (Err fault) → Called mem holds text places P C (Err (unfit fault)) P C
   called_unfit fault h p c ps cs hp hc = (ps, cs, hp, hc, (λ past. past), not_fit fault (counted (Err fault) p c ps cs h hp hc))
 
   pub called_long : Counts P.items C.items (length places) (Ok tt) → 65535 < length text → Called mem holds text places P C (Err (TooLong (length text))) P C

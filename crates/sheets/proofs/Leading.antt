@@ -22,9 +22,6 @@ module _ (text head : Bytes) (at : ℕ) (r : Bool) (e : r ≡ pointwise eqb head
   pub not_begins : r ≡ false → Begins (drop at text) head → ⊥
   not_begins f b = let s = starts_is Decides-eqb (drop at text) head r (rw (take_rest text at) at e) in true≢false (sym (s.1 b.0 b.1) ∙ f)
 
-pub skipping_none : (text : Bytes) → Skipping text 0 1
-skipping_none text = record { fits = omega arith; low = omega arith; some = omega arith; goes = λ m rest s. let e : m + (1 - 1) ≡ m = omega arith in rw e s }
-
 module _ (text : Bytes) (at nth : ℕ) (g : Skipping text at nth) where
   pub skipping_more : (line : Bytes) (to : ℕ) → at + length line + 1 ≡ to → Begins (drop at text) (codes "ITEM") → Ended text at line → Skipping text to (nth + 1)
   skipping_more line to is b e =

@@ -12,10 +12,10 @@ pub mod Looking
 pub mod RowPutting
 pub mod RowFronting
 pub mod RowsGoing
-pub mod Keeping
 pub mod TablesGoing
 pub mod Leading
 pub mod RowsPast
+pub mod Counting
 pub mod Calling
 pub mod OneReading
 pub mod RowsReturning

@@ -4,7 +4,7 @@ use Rattle.std.proofs.lemmas.List.{append-nil, length_push, take_all, take_more_
 use Rattle.sheets.specs.Bytes.{Bytes, Labels, Row, spaced}
 use Rattle.sheets.specs.Runs.{Named}
 use Rattle.sheets.specs.Labels.{First, Absent}
-use Rattle.sheets.specs.Looks.{Looked, looked_none, looked_more, Found, Lost}
+use Rattle.sheets.specs.Looks.{Looked, looked_none, looked_more, Lost}
 use Rattle.sheets.proofs.Spans.{named_on}
 
 pub spaced_append : (ls ms : List Bytes) → spaced (ls ++ ms) ≡ spaced ls ++ spaced ms
@@ -95,14 +95,3 @@ module _ (names : List Bytes) (row memory rest : List ℕ) (count : ℕ) (g : Lo
         there = let e = length-append g.labels (l ∷ t.0) in omega arith;
         absent = subst (λ (z : Bytes). Absent names z) (sym (get_or_at g.labels l t.0 [] (length g.labels) refl)) a;
       }
-
-module _ (names : List Bytes) (row memory : List ℕ) (count : ℕ) where
-  pub looking_found : (rest ks : List ℕ) → Looking names row memory rest count → rest ≡ [] → ks ≡ take count memory → Found names row (length memory) ks
-  looking_found rest ks g none e = record {
-    labels = g.labels;
-    items = g.items;
-    formed = g.formed;
-    parts = g.parts ∙ ap (λ (z : Bytes). spaced g.labels ++ z) none ∙ append-nil (spaced g.labels);
-    looked = g.looked;
-    first = e ∙ ap (λ (n : ℕ). take n memory) (sym g.many) ∙ g.stored;
-  }

@@ -1,10 +1,11 @@
 -- What a place stands for, and which item has a label.
-use Rattle.std.proofs.Common.{◌≡◌, ℕ, ◌+◌, ◌<◌, ◌≤◌, Bool, cond, List, [], ◌∷◌, ◌++◌, map, length, get_or, take, drop, sym, ap, ◌∙◌, inl, inr, MatchOption, None, Some, Option, arith, length-take, length-drop, length-append}
+use Rattle.std.proofs.Common.{◌≡◌, ℕ, ◌+◌, ◌<◌, ◌≤◌, Bool, cond, List, [], ◌∷◌, map, length, get_or, take, drop, sym, ap, ◌∙◌, inl, inr, MatchOption, None, Some, Option, Bor, arith}
 use Rattle.std.specs.List.{AllWithin, HoldsAt}
-use Rattle.std.proofs.lemmas.Bool.{le-leb}
-use Rattle.std.proofs.lemmas.Bool.Decides.{leb_tells}
-use Rattle.std.proofs.lemmas.List.{length-map, get_or-map, take-append-drop}
-use Rattle.std.proofs.Math.Seq.{take-append_seam}
+use Rattle.std.specs.Option.{unwrap_or}
+use Rattle.std.specs.Slice.{IsGetRangeResult}
+use Rattle.std.proofs.lemmas.Bool.{le-leb, lt-leb}
+use Rattle.std.proofs.lemmas.List.{length-map, get_or-map, take_rest}
+use Rattle.std.proofs.Math.Nat.{sub-zero}
 use Rattle.sheets.specs.Bytes.{Bytes}
 use Rattle.sheets.specs.Labels.{named, Absent, First}
 use Rattle.sheets.specs.declared.place.LabelPlace.{LabelPlace}
@@ -13,38 +14,17 @@ pub named_in : (text : Bytes) (p : LabelPlace) → p.start + p.len ≤ length te
 unfolding named
 named_in text p h = ap (λ (b : Bool). cond b (take p.len (drop p.start text)) []) (le-leb (p.start + p.len) (length text) h)
 
--- where a label stands, its place is in the text
-pub record Stands (text label : Bytes) (p : LabelPlace) : Type 0 where
-  pub fits : p.start + p.len ≤ length text
-  pub long : p.len ≡ length label
-  pub front : drop p.start text ≡ label ++ drop p.len (drop p.start text)
-
-pub stands : (text label : Bytes) (p : LabelPlace) → 1 ≤ length label → named text p ≡ label → Stands text label p
+named_out : (text : Bytes) (p : LabelPlace) → length text < p.start + p.len → named text p ≡ []
 unfolding named
-stands text label p some e = elim (leb_tells (p.start + p.len) (length text)) [
-  | inl h ↦
-      let fits = h.1 in
-      let is : take p.len (drop p.start text) ≡ label = cc (named_in text p fits) in
-      let long = ap length is in
-      let a = length-take p.len (drop p.start text) in
-      let b = length-drop p.start text in
-      record {
-        fits = fits;
-        long = omega arith;
-        front = sym (take-append-drop p.len (drop p.start text)) ∙ ap (λ (z : Bytes). z ++ drop p.len (drop p.start text)) is;
-      }
-  | inr h ↦
-      let none : label ≡ [] = sym e ∙ ap (λ (b : Bool). cond b (take p.len (drop p.start text)) []) (h.0) in
-      let long = ap length none in
-      absurd (omega arith)
-]
+named_out text p h = ap (λ (b : Bool). cond b (take p.len (drop p.start text)) []) (lt-leb (p.start + p.len) (length text) h)
 
-pub front_named : (text label rest : Bytes) (p : LabelPlace) → p.start ≤ length text → p.len ≡ length label → drop p.start text ≡ label ++ rest → named text p ≡ label
-front_named text label rest p inside long e =
-    let a = length-drop p.start text in
-    let b = ap length e in
-    let c = length-append label rest in
-    named_in text p (omega arith) ∙ ap (take p.len) e ∙ ap (λ (n : ℕ). take n (label ++ rest)) long ∙ take-append_seam label rest
+-- a place cuts its label out in two steps: what stands from its start on, and of that as much as it has
+pub cut_named : (text : Bytes) (p : LabelPlace) (rest label : Option (Bor Bytes)) (none : Bor Bytes) → IsGetRangeResult text p.start (length text) rest
+    → MatchOption rest (label ≡ None) (λ x. IsGetRangeResult x.now 0 p.len label) → none.now ≡ [] → (unwrap_or label none).now ≡ named text p
+cut_named text p None label none h k e = rw k (e ∙ sym (named_out text p (elim (h.0) [ inl l ↦ omega arith | inr l ↦ omega arith ])))
+cut_named text p (Some x) None none h k e = e ∙ sym (named_out text p (elim (k.0) [ inl l ↦ omega arith | inr l ↦ omega (arith, h.0.3) ]))
+cut_named text p (Some x) (Some y) none h k e =
+    k.0.2 ∙ ap (λ (n : ℕ). take n x.now) (sub-zero p.len) ∙ ap (take p.len) (h.0.2 ∙ take_rest text p.start) ∙ sym (named_in text p (omega (arith, h.0.3, k.0.1)))
 
 module _ {X : Type 0} (name : X → Bytes) (l : Bytes) where
   at_place : (P : Bytes → Type 0) (xs : List X) (i : ℕ) → i < length xs → HoldsAt (λ x. P (name x)) xs i → P (get_or (map name xs) i [])

@@ -8,16 +8,20 @@ use Rattle.tables.specs.Calls.{Puts}
 use Rattle.tables.specs.declared.fault.TableFault.{TableFault}
 use Rattle.tables.specs.declared.fault.TableFault.TheVariants.{ItemCount as Closed, NoSuchItem, Repeated, CannotHold, Contains, Full, NoSuchRow}
 use Rattle.tables.proofs.Determined.{one_reply}
+use Rattle.duality.specs.declared.fault.PairFault.{PairFault}
+use Rattle.duality.specs.declared.fault.PairFault.TheVariants.{ItemCount, CountsDiffer}
 use Rattle.sheets.specs.Bytes.{Bytes, Feedless, Labels, spaced}
+use Rattle.sheets.specs.Counts.{Counts, paths_closed, cuts_closed, tables_differ, labels_differ, counts_fit}
 use Rattle.sheets.specs.Labels.{named, Absent}
 use Rattle.sheets.specs.Looks.{Looked, looked_none, looked_more}
 use Rattle.sheets.specs.Runs.{Visible}
 use Rattle.sheets.specs.Rows.{RowLine, path_row, cuts_row, labels_of, line_of, rows_text, RowFronts, Run, run_none, run_path, run_cuts, RowsEnd, end_all, end_unformed, end_lost, end_path, end_cuts, RowsRead}
-use Rattle.sheets.specs.RowsCalls.{Counts, paths_closed, cuts_closed, tables_differ, labels_differ, counts_fit, RowsCall, not_fit, too_long, rows_read, OneReading}
+use Rattle.sheets.specs.RowsCalls.{RowsCall, not_fit, too_long, rows_read, OneReading}
+use Rattle.sheets.specs.RowsFaults.{unfit}
 use Rattle.sheets.specs.Skips.{Skips, skip_stop, skip_last, skip_line}
 use Rattle.sheets.specs.declared.place.LabelPlace.{LabelPlace}
 use Rattle.sheets.specs.declared.rows_fault.RowsFault.{RowsFault}
-use Rattle.sheets.specs.declared.rows_fault.RowsFault.TheVariants.{ItemCount, CountsDiffer, Unformed, NoItem, Put}
+use Rattle.sheets.specs.declared.rows_fault.RowsFault.TheVariants.{Unformed, NoItem, Put}
 use Rattle.sheets.proofs.Parses.{path_cuts}
 use Rattle.sheets.proofs.Determined.{first_same}
 use Rattle.sheets.proofs.Fronting.{line_same}
@@ -274,10 +278,10 @@ skips_same text x y n m (skip_line l t k a p q e s) (skip_line l2 t2 k2 b p2 q2 
 
 -- ---- the counts
 
-abbrev counted : ℕ → ℕ → ℕ → Result (Unit {0}) RowsFault
+abbrev counted : ℕ → ℕ → ℕ → Result (Unit {0}) PairFault
 counted p c l = cond (eqb p 0) (Err (ItemCount p)) (cond (eqb c 0) (Err (ItemCount c)) (cond (eqb p c) (cond (eqb p l) (Ok tt) (Err (CountsDiffer p l))) (Err (CountsDiffer p c))))
 
-counts_are : (p c l : ℕ) (r : Result (Unit {0}) RowsFault) → Counts p c l r → r ≡ counted p c l
+counts_are : (p c l : ℕ) (r : Result (Unit {0}) PairFault) → Counts p c l r → r ≡ counted p c l
 counts_are p c l r (paths_closed e) = grind (arith, nat_tests)
 counts_are p c l r (cuts_closed a e) = grind (arith, nat_tests)
 counts_are p c l r (tables_differ a e d) = grind (arith, nat_tests)
@@ -287,17 +291,20 @@ counts_are p c l r (counts_fit a e d) = grind (arith, nat_tests)
 -- ---- the call
 
 module _ (p c a b : ℕ) (holds : Numbers → Type 0) (text : Bytes) (places : List LabelPlace) (ps cs : List Numbers) where
-  unfit : {P : Type 0} (f : RowsFault) → Counts p c (length places) (Err f) → Counts p c (length places) (Ok tt) → P
-  unfit f h k = let e = counts_are p c (length places) (Err f) h ∙ sym (counts_are p c (length places) (Ok tt) k) in absurd (cc)
+  not_both : {P : Type 0} (f : PairFault) → Counts p c (length places) (Err f) → Counts p c (length places) (Ok tt) → P
+  not_both f h k = let e = counts_are p c (length places) (Err f) h ∙ sym (counts_are p c (length places) (Ok tt) k) in absurd (cc)
 
   call_same : (r s : Result (Unit {0}) RowsFault) (qs ds xs ys : List Numbers) → RowsCall p c a b holds text places ps cs r qs ds → RowsCall p c a b holds text places ps cs s xs ys → (r ≡ s) × (qs ≡ xs) × (ds ≡ ys)
-  call_same r s qs ds xs ys (not_fit f h) (not_fit g k) = (counts_are p c (length places) (Err f) h ∙ sym (counts_are p c (length places) (Err g) k), refl, refl)
-  call_same r s qs ds xs ys (not_fit f h) (too_long k l) = unfit f h k
-  call_same r s qs ds xs ys (not_fit f h) (rows_read m rest t us vs k l sk rd) = unfit f h k
-  call_same r s qs ds xs ys (too_long h l) (not_fit f k) = unfit f k h
+  call_same r s qs ds xs ys (not_fit f h) (not_fit g k) =
+      let e = counts_are p c (length places) (Err f) h ∙ sym (counts_are p c (length places) (Err g) k) in
+      let same : f ≡ g = cc in
+      (ap (λ z. Err (unfit z)) same, refl, refl)
+  call_same r s qs ds xs ys (not_fit f h) (too_long k l) = not_both f h k
+  call_same r s qs ds xs ys (not_fit f h) (rows_read m rest t us vs k l sk rd) = not_both f h k
+  call_same r s qs ds xs ys (too_long h l) (not_fit f k) = not_both f k h
   call_same r s qs ds xs ys (too_long h l) (too_long k m) = (refl, refl, refl)
   call_same r s qs ds xs ys (too_long h l) (rows_read m rest t us vs k o sk rd) = absurd (omega arith)
-  call_same r s qs ds xs ys (rows_read m rest t us vs k o sk rd) (not_fit f h) = unfit f h k
+  call_same r s qs ds xs ys (rows_read m rest t us vs k o sk rd) (not_fit f h) = not_both f h k
   call_same r s qs ds xs ys (rows_read m rest t us vs k o sk rd) (too_long h l) = absurd (omega arith)
   call_same r s qs ds xs ys (rows_read m rest t us vs k o sk rd) (rows_read m2 rest2 t2 us2 vs2 k2 o2 sk2 rd2) =
       let d = skips_same text rest rest2 m m2 sk sk2 in

@@ -2,6 +2,7 @@
 --
 --   items_refusal      the number and the values of each refusal
 --   items_fault_text   what it says, with its values
+--   items_fault_line   the line that it names; 0 if it names none
 --   unformed_line      the refusal of a line that is not formed
 use Rattle.std.specs.Prelude.{ℕ, List, [], ◌∷◌, ◌++◌, codes}
 use Rattle.std.specs.Fmt.{decimal}
@@ -24,6 +25,13 @@ items_fault_text (NoPlace places line) = codes "no free place, of " ++ decimal p
 items_fault_text (TooLong len) = codes "a text of " ++ decimal len ++ codes " bytes"
 items_fault_text (Unformed line) = codes "line " ++ decimal line ++ codes " is not formed"
 items_fault_text (Repeated line item) = codes "label of item " ++ decimal item ++ codes ", line " ++ decimal line
+
+abbrev pub items_fault_line : ItemsFault → ℕ
+items_fault_line (ItemCount count line) = line
+items_fault_line (NoPlace places line) = line
+items_fault_line (TooLong len) = 0
+items_fault_line (Unformed line) = line
+items_fault_line (Repeated line item) = line
 
 abbrev pub unformed_line : LineFault → ItemsFault
 unformed_line (Bad line) = Unformed line

@@ -9,4 +9,5 @@ pub mod RowPuts
 pub mod RowsFaults
 pub mod Rows
 pub mod Skips
+pub mod Counts
 pub mod RowsCalls

@@ -2,30 +2,25 @@
 --
 -- The path table has p items and the capacity a, the cut table c items and the capacity b.
 --
---   Counts p c l   the reply of the checks of the counts, for l labels
 --   RowsCall       the reply of the call, and the rows qs and ds that it leaves in place of ps and cs
 --   RowsComeBack   rows that were put are read from the text that is written of them
 --   OneReading     the text, the places and the rows decide both
-use Rattle.std.specs.Prelude.{◌≡◌, ◌≢◌, ℕ, ◌+◌, ◌<◌, ◌≤◌, List, ◌++◌, length, map, Ok, Err, Result}
+use Rattle.std.specs.Prelude.{◌≡◌, ℕ, ◌+◌, ◌<◌, ◌≤◌, List, ◌++◌, length, map, Ok, Err, Result}
 use Rattle.sets.specs.Sets.{Numbers}
+use Rattle.duality.specs.declared.fault.PairFault.{PairFault}
 use Rattle.sheets.specs.Bytes.{Bytes, items_text}
+use Rattle.sheets.specs.Counts.{Counts}
 use Rattle.sheets.specs.Items.{Accepted}
 use Rattle.sheets.specs.Labels.{named}
 use Rattle.sheets.specs.Rows.{RowLine, rows_text, Run, RowsRead}
+use Rattle.sheets.specs.RowsFaults.{unfit}
 use Rattle.sheets.specs.Skips.{Skips}
 use Rattle.sheets.specs.declared.place.LabelPlace.{LabelPlace}
 use Rattle.sheets.specs.declared.rows_fault.RowsFault.{RowsFault}
-use Rattle.sheets.specs.declared.rows_fault.RowsFault.TheVariants.{ItemCount, CountsDiffer, TooLong}
-
-pub data Counts (p c labels : ℕ) : Result (Unit {0}) RowsFault → Type 0 where
-  paths_closed : p ≡ 0 → Counts p c labels (Err (ItemCount p))
-  cuts_closed : 1 ≤ p → c ≡ 0 → Counts p c labels (Err (ItemCount c))
-  tables_differ : 1 ≤ p → 1 ≤ c → p ≢ c → Counts p c labels (Err (CountsDiffer p c))
-  labels_differ : 1 ≤ p → p ≡ c → p ≢ labels → Counts p c labels (Err (CountsDiffer p labels))
-  counts_fit : 1 ≤ p → p ≡ c → p ≡ labels → Counts p c labels (Ok tt)
+use Rattle.sheets.specs.declared.rows_fault.RowsFault.TheVariants.{TooLong}
 
 pub data RowsCall (p c a b : ℕ) (holds : Numbers → Type 0) (text : Bytes) (places : List LabelPlace) (ps cs : List Numbers) : Result (Unit {0}) RowsFault → List Numbers → List Numbers → Type 0 where
-  not_fit : (fault : RowsFault) → Counts p c (length places) (Err fault) → RowsCall p c a b holds text places ps cs (Err fault) ps cs
+  not_fit : (fault : PairFault) → Counts p c (length places) (Err fault) → RowsCall p c a b holds text places ps cs (Err (unfit fault)) ps cs
   too_long : Counts p c (length places) (Ok tt) → 65535 < length text → RowsCall p c a b holds text places ps cs (Err (TooLong (length text))) ps cs
   rows_read : (lines : ℕ) (rest : Bytes) (r : Result (Unit {0}) RowsFault) (qs ds : List Numbers) → Counts p c (length places) (Ok tt) → length text ≤ 65535
       → Skips text lines rest → RowsRead p a b holds (map (named text) places) rest (lines + 1) ps cs r qs ds → RowsCall p c a b holds text places ps cs r qs ds

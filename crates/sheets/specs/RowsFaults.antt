@@ -3,10 +3,14 @@
 --   rows_refusal      the number and the values of each refusal
 --   rows_fault_text   what it says, with its values
 --   unformed          the refusal of a line that is not formed
+--   rows_fault_line   the line that it names; 0 if it names none
+--   unfit             the refusal of tables and labels that do not fit together
 --   at_line           the refusal of a row, with the row's line
 use Rattle.std.specs.Prelude.{ℕ, List, [], ◌∷◌, ◌++◌, codes}
 use Rattle.std.specs.Fmt.{decimal}
 use Rattle.tables.specs.Refusals.{Refusal, table_refusal, table_text}
+use Rattle.duality.specs.declared.fault.PairFault.{PairFault}
+use Rattle.duality.specs.declared.fault.PairFault.TheVariants.{ItemCount as NoCount, CountsDiffer as Differ}
 use Rattle.sheets.specs.declared.line.LineFault.{LineFault}
 use Rattle.sheets.specs.declared.line.LineFault.TheVariants.{Bad}
 use Rattle.sheets.specs.declared.putting.RowFault.{RowFault}
@@ -29,6 +33,18 @@ rows_fault_text (TooLong len) = codes "a text of " ++ decimal len ++ codes " byt
 rows_fault_text (Unformed line) = codes "line " ++ decimal line ++ codes " is not formed"
 rows_fault_text (NoItem line) = codes "a label of no item, line " ++ decimal line
 rows_fault_text (Put fault line) = table_text fault ++ codes ", line " ++ decimal line
+
+abbrev pub rows_fault_line : RowsFault → ℕ
+rows_fault_line (ItemCount count) = 0
+rows_fault_line (CountsDiffer first second) = 0
+rows_fault_line (TooLong len) = 0
+rows_fault_line (Unformed line) = line
+rows_fault_line (NoItem line) = line
+rows_fault_line (Put fault line) = line
+
+abbrev pub unfit : PairFault → RowsFault
+unfit (NoCount count) = ItemCount count
+unfit (Differ first second) = CountsDiffer first second
 
 abbrev pub unformed : LineFault → RowsFault
 unformed (Bad line) = Unformed line

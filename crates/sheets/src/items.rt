@@ -4,6 +4,7 @@ ghost use Rattle.sheets.specs.Bytes.{Bytes};
 ghost use Rattle.sheets.specs.Items.{Stops, Fronts, ItemAt, Taken, Refused, ItemsRead, Filled, ItemsCall, names_of};
 ghost use Rattle.sheets.specs.declared.line.LineFault.TheVariants.{Bad};
 
+use crate::MOST_BYTES;
 use crate::items_fault::ItemsFault;
 use crate::line::{Line, LineFault, parse};
 use crate::place::{LabelPlace, find_label};
@@ -82,7 +83,7 @@ pub(crate) fn all_items(text: &[u8], places: &mut [LabelPlace]) -> Result<usize,
 pub fn read_items(text: &[u8], places: &mut [LabelPlace]) -> Result<usize, ItemsFault>
     ensures { ItemsCall text.now places.old places.new result }
 {
-    if text.len() > 65535 {
+    if text.len() > MOST_BYTES {
         return Err(ItemsFault::TooLong(text.len()));
     }
     all_items(text, places)

@@ -1,6 +1,6 @@
 // Why the first reading call is refused.
 ghost use Rattle.std.specs.Prelude.{◌≡◌, Some};
-ghost use Rattle.sheets.specs.ItemsFaults.{items_refusal, items_fault_text, unformed_line};
+ghost use Rattle.sheets.specs.ItemsFaults.{items_refusal, items_fault_text, items_fault_line, unformed_line};
 
 use crate::line::LineFault;
 use std::error::Error;
@@ -31,6 +31,19 @@ impl ItemsFault {
             ItemsFault::TooLong(_) => 13,
             ItemsFault::Unformed(_) => 14,
             ItemsFault::Repeated(_, _) => 15,
+        }
+    }
+
+    // The line that it names; 0 if it names none.
+    pub fn line(&self) -> usize
+        ensures { result ≡ items_fault_line self.now }
+    {
+        match *self {
+            ItemsFault::TooLong(_) => 0,
+            ItemsFault::ItemCount(_, line)
+            | ItemsFault::NoPlace(_, line)
+            | ItemsFault::Unformed(line)
+            | ItemsFault::Repeated(line, _) => line,
         }
     }
 }

@@ -1,5 +1,5 @@
 // Where the labels of a text stand.
-ghost use Rattle.std.specs.Prelude.{◌≡◌, ◌≤◌, map, length, Decides, MatchOption};
+ghost use Rattle.std.specs.Prelude.{◌≡◌, map, MatchOption};
 ghost use Rattle.sheets.specs.Labels.{named, Absent, First};
 
 // Where a label stands in a text.
@@ -9,19 +9,20 @@ pub struct LabelPlace {
     pub len: usize,
 }
 
-// Whether the place stands for the label.
-pub(crate) fn has_label(text: &[u8], place: &LabelPlace, label: &[u8]) -> bool
-    ensures { 1 ≤ length label.now → Decides result (named text.now place.now ≡ label.now) }
-{
-    place.len == label.len() && place.start <= text.len() && text[place.start..].starts_with(label)
+impl LabelPlace {
+    // The label that the place stands for: one that leaves the text stands for the empty label.
+    pub fn label<'a>(&self, text: &'a [u8]) -> &'a [u8]
+        ensures { result.now ≡ named text.now self.now }
+    {
+        text.get(self.start..)
+            .and_then(|rest| rest.get(..self.len))
+            .unwrap_or(&[])
+    }
 }
 
 // The lowest item whose place stands for the label.
 pub(crate) fn find_label(text: &[u8], places: &[LabelPlace], label: &[u8]) -> Option<usize>
-    requires { 1 ≤ length label.now }
     ensures { MatchOption result (Absent (map (named text.now) places.now) label.now) (First (map (named text.now) places.now) label.now) }
 {
-    places
-        .iter()
-        .position(|place| has_label(text, place, label))
+    places.iter().position(|place| place.label(text) == label)
 }

@@ -5,8 +5,10 @@ ghost use Rattle.tables.specs.Tables.{Holds, Kept};
 ghost use Rattle.sheets.specs.Labels.{named};
 ghost use Rattle.tables.specs.Pasts.{Past};
 ghost use Rattle.sheets.specs.Rows.{LinePut, RowsRead};
-ghost use Rattle.sheets.specs.RowsCalls.{Counts, RowsCall};
+ghost use Rattle.sheets.specs.RowsCalls.{RowsCall};
 
+use crate::MOST_BYTES;
+use crate::counts::check_counts;
 use crate::line::{Line, parse};
 use crate::place::LabelPlace;
 use crate::putting::put_row;
@@ -62,31 +64,6 @@ pub(crate) fn put_rows<K: SetKind>(
     Ok(())
 }
 
-// Whether the two tables and the labels have one count.
-pub(crate) fn check_counts<K: SetKind>(
-    paths: &Table<K>,
-    cuts: &Table<K>,
-    labels: usize,
-) -> Result<(), RowsFault>
-    ensures { Counts paths.now.items cuts.now.items labels result }
-{
-    let n = paths.item_count();
-    let m = cuts.item_count();
-    if n == 0 {
-        return Err(RowsFault::ItemCount(n));
-    }
-    if m == 0 {
-        return Err(RowsFault::ItemCount(m));
-    }
-    if n != m {
-        return Err(RowsFault::CountsDiffer(n, m));
-    }
-    if n != labels {
-        return Err(RowsFault::CountsDiffer(n, labels));
-    }
-    Ok(())
-}
-
 // Reads the rows of a text into the tables: a label names the lowest item whose place stands for it.
 pub fn read_rows<K: SetKind>(
     text: &[u8],
@@ -99,7 +76,7 @@ pub fn read_rows<K: SetKind>(
     ensures reads { (p c : ℕ) (ps cs : List Numbers) → Holds K.mem paths.old p ps → Holds K.mem cuts.old c cs → (qs ds : List Numbers) × Holds K.mem paths.new p qs × Holds K.mem cuts.new c ds × (Past p paths.old.capacity cuts.old.capacity K.holds ps cs → Past p paths.old.capacity cuts.old.capacity K.holds qs ds) × RowsCall p c paths.old.capacity cuts.old.capacity K.holds text.now places.now ps cs result qs ds }
 {
     check_counts(paths, cuts, places.len())?;
-    if text.len() > 65535 {
+    if text.len() > MOST_BYTES {
         return Err(RowsFault::TooLong(text.len()));
     }
     let spot = skip_items(text);

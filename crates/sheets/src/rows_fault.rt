@@ -1,10 +1,11 @@
 // Why the second reading call is refused.
 ghost use Rattle.std.specs.Prelude.{◌≡◌, Some};
-ghost use Rattle.sheets.specs.RowsFaults.{rows_refusal, rows_fault_text, unformed};
+ghost use Rattle.sheets.specs.RowsFaults.{rows_refusal, rows_fault_text, rows_fault_line, unfit, unformed};
 ghost use Rattle.sheets.specs.Lines.{line_fault};
 
 use crate::line::LineFault;
 use crate::split::SplitFault;
+use duality::PairFault;
 use std::error::Error;
 use std::fmt;
 use tables::TableFault;
@@ -37,6 +38,27 @@ impl RowsFault {
             RowsFault::Unformed(_) => 14,
             RowsFault::NoItem(_) => 16,
             RowsFault::Put(fault, _) => fault.number(),
+        }
+    }
+
+    // The line that it names; 0 if it names none.
+    pub fn line(&self) -> usize
+        ensures { result ≡ rows_fault_line self.now }
+    {
+        match *self {
+            RowsFault::ItemCount(_) | RowsFault::CountsDiffer(_, _) | RowsFault::TooLong(_) => 0,
+            RowsFault::Unformed(line) | RowsFault::NoItem(line) | RowsFault::Put(_, line) => line,
+        }
+    }
+}
+
+impl From<PairFault> for RowsFault {
+    ghost from_gives = { λ fault r. r ≡ unfit fault };
+
+    fn from(fault: PairFault) -> RowsFault {
+        match fault {
+            PairFault::ItemCount(count) => RowsFault::ItemCount(count),
+            PairFault::CountsDiffer(first, second) => RowsFault::CountsDiffer(first, second),
         }
     }
 }

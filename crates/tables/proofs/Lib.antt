@@ -5,3 +5,5 @@ pub mod Gathering
 pub mod Replying
 pub mod Histories
 pub mod Determined
+pub mod Keeping
+pub mod Returning

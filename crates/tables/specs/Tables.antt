@@ -6,6 +6,8 @@
 --   Kept       the item count and the capacity are as they were, and so are the places from the capacity on; and the memory is the one
 --              that was lent, so that whoever lent it finds the places in it
 --   Unchanged  so are all places, and the number of rows
+--   Left       what is left of the memory lent to a table: its rows stand in the first places, each place behind them up to the
+--              capacity holds the empty set, and the places from the capacity on are as they were
 use Rattle.std.specs.Prelude.{◌≡◌, ℕ, min, List, [], length}
 use Rattle.sets.specs.Sets.{Numbers}
 use Rattle.sets.specs.declared.kind.SetKind.{Ghosts}
@@ -30,6 +32,11 @@ pub record Kept {X : Type 0} {G : Ghosts X} (before after : Table X G) : Type 0 
 pub record Unchanged {X : Type 0} {G : Ghosts X} (before after : Table X G) : Type 0 where
   pub memory : places after ≡ places before
   pub count : after.count ≡ before.count
+
+pub record Left {X : Type 0} (mem : X → Numbers) (before after : List (Row X)) (capacity count : ℕ) (rows : List Numbers) : Type 0 where
+  pub rows_stand : Standing (meant mem) after capacity count rows
+  pub same_length : length after ≡ length before
+  pub beyond : Beyond capacity before after
 
 -- a table opened with a permitted item count over this memory
 pub record Opened {X : Type 0} {G : Ghosts X} (mem : X → Numbers) (n : ℕ) (memory : List (Row X)) (t : Table X G) : Type 0 where

@@ -4,7 +4,7 @@ use Rattle.std.proofs.lemmas.Result.{err_from_is_err_and}
 use Rattle.completion.specs.declared.side.Side.TheVariants.{Paths}
 use Rattle.completion.specs.declared.fault.CompletionFault.{CompletionFault}
 use Rattle.completion.specs.declared.fault.CompletionFault.TheVariants.{MoreThanPlaces}
-use Rattle.completion.proofs.Keeping.{kept_same, kept_trans}
+use Rattle.tables.proofs.Keeping.{kept_same, kept_trans}
 use Rattle.completion.proofs.Filled.{Filled, filling_none, filled_never, filled_all, filling_more, filled_blocked}
 use Rattle.completion.proofs.filling.fill.Goals as goal
 

@@ -2,8 +2,8 @@
 use Rattle.std.proofs.Common.{◌<◌, min, [], length, get_or, drop, sym, ap, ◌∙◌, arith, rules}
 use Rattle.std.proofs.lemmas.List.{length-take}
 use Rattle.completion.specs.declared.call.Call.TheVariants.{PutPath}
-use Rattle.completion.proofs.Keeping.{kept_same, kept_trans}
-use Rattle.completion.proofs.Replaying.{running_none, running_more, left, replayed}
+use Rattle.tables.proofs.Keeping.{kept_same, kept_trans, left}
+use Rattle.completion.proofs.Replaying.{running_none, running_more, replayed}
 use Rattle.completion.proofs.running.replay.Goals as goal
 
 pub loop-i-init : goal.loop-i-init

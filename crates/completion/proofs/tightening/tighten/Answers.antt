@@ -4,7 +4,7 @@ use Rattle.sets.specs.Sets.{nothing}
 use Rattle.systems.specs.States.{up}
 use Rattle.systems.specs.Systems.{ProperSubset, MinimalPath}
 use Rattle.completion.specs.Offers.{Replaced}
-use Rattle.completion.proofs.Keeping.{kept_same, kept_trans}
+use Rattle.tables.proofs.Keeping.{kept_same, kept_trans}
 use Rattle.completion.proofs.Replied.{row_shown, row_refused}
 use Rattle.completion.proofs.Tightenings.{tight_none, tight_all, tight_end, opening, tight_next, tight_replaced}
 use Rattle.completion.proofs.tightening.tighten.Goals as goal

@@ -5,7 +5,7 @@ use Rattle.sheets.specs.Labels.{named}
 use Rattle.sheets.specs.Lines.{line_fault}
 use Rattle.sheets.specs.RowsFaults.{unformed}
 use Rattle.sheets.specs.declared.rows_fault.RowsFault.{RowsFault}
-use Rattle.sheets.proofs.Keeping.{kept_same, kept_trans}
+use Rattle.tables.proofs.Keeping.{kept_same, kept_trans}
 use Rattle.sheets.proofs.TablesGoing.{Read, going_none, going_all, going_unended, going_more, going_refused}
 use Rattle.sheets.proofs.rows.put_rows.Goals as goal
 
