@@ -1,0 +1,14 @@
+pub mod Digits
+pub mod Writing
+pub mod Going
+pub mod Outputting
+pub mod Calling
+pub mod Lengths
+pub mod ReportLengths
+pub mod RowItems
+pub mod Lines
+pub mod ReadLabels
+pub mod LookedBack
+pub mod ReadingBack
+pub mod Answering
+pub mod Finding

@@ -1,0 +1,9 @@
+pub mod Pages
+pub mod Columns
+pub mod SheetTexts
+pub mod Faults
+pub mod Writes
+pub mod RoundTrips
+pub mod Reports
+pub mod TextFaults
+pub mod Answers
