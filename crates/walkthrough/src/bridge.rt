@@ -36,13 +36,15 @@ const LINES: &[Line] = &[
     },
 ];
 
+pub const FIGURE: LineDrawing = LineDrawing {
+    items: ITEMS,
+    nodes: 4,
+    lines: LINES,
+};
+
 // The bridge, and its lines with an item that no line has.
 const DRAWINGS: &[LineDrawing] = &[
-    LineDrawing {
-        items: ITEMS,
-        nodes: 4,
-        lines: LINES,
-    },
+    FIGURE,
     LineDrawing {
         items: ITEMS + 1,
         nodes: 4,

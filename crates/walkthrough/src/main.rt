@@ -14,5 +14,6 @@ fn main(rt: HostRuntime) -> io::Result<()> {
     bridge::wrong_count(&rt)?;
     bridge::drawn(&rt)?;
     cooling::typed(&rt)?;
-    cooling::drawn(&rt)
+    cooling::drawn(&rt)?;
+    sheet::write(&rt)
 }
