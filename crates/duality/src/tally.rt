@@ -66,9 +66,7 @@ impl Tally {
         requires each { (k : ℕ) → slice_index self.old.having k ≤ self.old.rows }
         ensures { (rows : List Numbers) → Tallied rows self.old → Tallied (rows ++ K.mem set.now ∷ []) self.new }
     {
-        for item in set.members() {
-            self.having[item] += 1;
-        }
+        set.add_to(&mut self.having);
         self.rows += 1;
     }
 }

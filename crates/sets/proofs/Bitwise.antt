@@ -5,7 +5,7 @@ use lib.Bits.{bit_and, bit_or, bit_xor, and_shr, or_shr, xor_shr, and_mod, or_mo
 use lib.Count.{ones, count_trailing_zeros, under, ones_cat}
 use Rattle.sets.specs.Sets.{one, count}
 use Rattle.sets.specs.Words.{bit}
-use Rattle.std.proofs.lemmas.Bool.{cases_order, cases_lt, lt-leb, le-leb, eq-eqb, ne_eqb, eqb-true}
+use Rattle.std.proofs.lemmas.Bool.{cases_order, cases_eq, cases_lt, lt-leb, le-leb, eq-eqb, ne_eqb, eqb-true}
 use Rattle.std.proofs.lemmas.Nat.{shl-shr, shr-shr, pow-add, pow_below, mod_below, mod-pow-add, pow_pos, div-add-mod', shr_below}
 
 pub on_digits : (P : ℕ → ℕ → Type 0) → P 0 0 → P 0 1 → P 1 0 → P 1 1 → (x y : ℕ) → x < 2 → y < 2 → P x y
@@ -136,6 +136,47 @@ unfolding count_trailing_zeros
 trailing_some zero w l h = absurd (h (omega arith))
 trailing_some (suc n) w l h =
     some_step w (w % 2) (count_trailing_zeros n (w / 2)) n refl (trailing_some n (w / 2) (shr_below w n 1 (rw add-one l))) h
+
+-- ---- a number and the one below it
+
+and_same : (b : Bool) → (b && b) ≡ b
+and_same true = refl
+and_same false = refl
+
+and_false : (b : Bool) → (b && false) ≡ false
+and_false true = refl
+and_false false = refl
+
+eqb_suc : (j t : ℕ) → eqb (suc j) (suc t) ≡ eqb j t
+eqb_suc j t =
+    elim (cases_eq j t) [
+      | inl e ↦ eq-eqb (suc j) (suc t) (ap suc e) ∙ sym (eq-eqb j t e)
+      | inr d ↦ ne_eqb (suc j) (suc t) (λ e. d (omega arith)) ∙ sym (ne_eqb j t d)
+    ]
+
+lower_step : (w d t : ℕ) → w % 2 ≡ d → w ≢ 0 → (w / 2 ≢ 0 → (j : ℕ) → (bit (w / 2) j && bit (w / 2 - 1) j) ≡ (not (eqb j t) && bit (w / 2) j)) → (j : ℕ) → (bit w j && bit (w - 1) j) ≡ (not (eqb j (under d t)) && bit w j)
+lower_step w zero t e h ih zero =
+    let off : bit w 0 ≡ false = bit_zero w ∙ ap (λ (x : ℕ). eqb x 1) e in
+    ap (λ b. b && bit (w - 1) 0) off ∙ sym (ap (λ b. not (eqb 0 (suc t)) && b) off ∙ and_false (not (eqb 0 (suc t))))
+lower_step w zero t e h ih (suc j) =
+    let half : (w - 1) / 2 ≡ w / 2 - 1 = omega arith in
+    ap₂ (λ a b. a && b) (bit_suc w j) (bit_suc (w - 1) j ∙ ap (λ (x : ℕ). bit x j) half) ∙ ih (λ z. h (omega arith)) j
+    ∙ ap₂ (λ a b. not a && b) (sym (eqb_suc j t)) (sym (bit_suc w j))
+lower_step w (suc zero) t e h ih zero =
+    let even : (w - 1) % 2 ≡ 0 = omega arith in
+    let off : bit (w - 1) 0 ≡ false = bit_zero (w - 1) ∙ ap (λ (x : ℕ). eqb x 1) even in
+    ap (λ b. bit w 0 && b) off ∙ and_false (bit w 0)
+lower_step w (suc zero) t e h ih (suc j) =
+    let half : (w - 1) / 2 ≡ w / 2 = omega arith in
+    ap₂ (λ a b. a && b) (bit_suc w j) (bit_suc (w - 1) j ∙ ap (λ (x : ℕ). bit x j) half) ∙ and_same (bit (w / 2) j) ∙ sym (bit_suc w j)
+    ∙ ap (λ b. not b && bit w (suc j)) (sym (ne_eqb (suc j) 0 (λ q. omega arith)))
+lower_step w (suc (suc d)) t e h ih j = absurd (omega (arith, mod_below w 2 (omega arith)))
+
+-- what the two have in common is the number without its lowest bit
+pub lowest_off : (n w : ℕ) → w < 2 ^ n → w ≢ 0 → (j : ℕ) → (bit w j && bit (w - 1) j) ≡ (not (eqb j (count_trailing_zeros n w)) && bit w j)
+unfolding count_trailing_zeros
+lowest_off zero w l h = absurd (h (omega arith))
+lowest_off (suc n) w l h = lower_step w (w % 2) (count_trailing_zeros n (w / 2)) refl h (lowest_off n (w / 2) (shr_below w n 1 (rw add-one l)))
 
 -- ---- the count of a word's bits
 

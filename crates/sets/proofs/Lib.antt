@@ -3,3 +3,6 @@ pub mod Bitwise
 pub mod WordLaws
 pub mod Lists
 pub mod Remaining
+pub mod MarkLaws
+pub mod Walk
+pub mod TwoLists

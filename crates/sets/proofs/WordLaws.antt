@@ -5,7 +5,7 @@ use lib.Count.{ones, count_trailing_zeros}
 use Rattle.sets.specs.Sets.{Numbers, with, without, Within, Apart, Same, Below, count, Lowest, NoneFrom}
 use Rattle.sets.specs.Words.{bit, word_set}
 use Rattle.sets.specs.Counts.{count_same}
-use Rattle.sets.proofs.Bitwise.{bit_of_and, bit_of_or, bit_single, bit_not, bits_same, bit_past, trailing_low, trailing_here, trailing_some, count_bits}
+use Rattle.sets.proofs.Bitwise.{bit_of_and, bit_of_or, bit_single, bit_not, bits_same, bit_past, lowest_off, trailing_low, trailing_here, trailing_some, count_bits}
 use Rattle.std.proofs.lemmas.Bool.{eq-eqb, ne_eqb, eqb-true, eqb-false, not-true, not-false, lt-ltb, le-ltb, cases_lt}
 use Rattle.sets.specs.Truth.{holds_true, true_holds, and_T, T_and}
 use Rattle.std.proofs.lemmas.Nat.{pow_below, pow_pos}
@@ -125,3 +125,17 @@ module _ (a k m : ℕ) (ha : a < 2 ^ 64) (hm : m < 2 ^ 64) (is : (j : ℕ) → j
   pub masked_lowest : (o : Option ℕ) → is_some o ≡ not (eqb m 0) → IfSome o (λ n. n ≡ count_trailing_zeros 64 m) → MatchOption o (NoneFrom (word_set a) k) (Lowest (word_set a) k)
   masked_lowest None e s = masked_none (eqb-true m 0 (not-false (eqb m 0) (sym e)))
   masked_lowest (Some n) e s = subst (Lowest (word_set a) k) (sym s) (masked_next (eqb-false m 0 (not-true (eqb m 0) (sym e))))
+
+-- `rest & (rest - 1)`
+pub word_rest : (a : ℕ) → a < 2 ^ 64 → a ≢ 0 → Same (word_set (bit_and a (a - 1))) (without (word_set a) (count_trailing_zeros 64 a))
+word_rest a h ne =
+    let k = count_trailing_zeros 64 a in
+    by_bits (bit_and a (a - 1)) (without (word_set a) k)
+    (λ j l. bit_of_and a (a - 1) j ∙ lowest_off 64 a h ne j ∙ ap (λ b. not (eqb j k) && b) (sym (word_bit a j l)))
+    (λ j l. ap (λ b. not (eqb j k) && b) (word_past a j l) ∙ and_swap (not (eqb j k)) false)
+
+pub word_lowest : (a : ℕ) → a < 2 ^ 64 → a ≢ 0 → (count_trailing_zeros 64 a < 64) × T (word_set a (count_trailing_zeros 64 a))
+word_lowest a h ne =
+    let z = trailing_some 64 a h ne in
+    let n = count_trailing_zeros 64 a in
+    (z, true_holds (word_set a n) (word_bit a n z ∙ trailing_here 64 a z))

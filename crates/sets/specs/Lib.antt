@@ -1,5 +1,6 @@
 pub mod Sets
 pub mod Words
+pub mod Marks
 pub mod Rising
 pub mod Listing
 pub mod Truth

@@ -1,8 +1,10 @@
 // What every set kind means and answers.
-ghost use Rattle.std.specs.Prelude.{◌≡◌, ℕ, ◌<◌, ◌≤◌, T, Decides, MatchOption, OnOk, OnErr, Some, codes};
-ghost use Rattle.sets.specs.Sets.{Numbers, nothing, with, without, Within, Apart, Same, Below, count, Lowest, NoneFrom};
+ghost use Rattle.std.specs.Prelude.{min, ◌-◌, ◌≡◌, ℕ, ◌+◌, ◌^◌, ◌<◌, ◌≤◌, T, Decides, MatchOption, OnOk, OnErr, Some, codes, slice_index};
+ghost use Rattle.sets.specs.Sets.{Numbers, nothing, with, without, Within, Apart, Same, Below, one, count, Lowest, NoneFrom};
+ghost use Rattle.sets.specs.Marks.{marked};
 ghost use Rattle.sets.specs.Members.{members_from, members_left};
 
+use crate::marks::Marks;
 use crate::members::Members;
 use std::error::Error;
 use std::fmt;
@@ -62,6 +64,58 @@ pub trait SetKind: Drop {
     // The lowest member at or above k.
     fn next(&self, k: usize) -> Option<usize>
         ensures { MatchOption result (NoneFrom (mem self.now) k) (Lowest (mem self.now) k) };
+
+    // Whether each member is marked.
+    fn all_marked(&self, marks: &Marks) -> bool
+        ensures { Decides result (Within (mem self.now) (marked marks.now)) }
+    {
+        let mut from = 0;
+        'all: while let Some(k) = self.next(from) {
+            if !marks.has(k) {
+                return false;
+            }
+            from = k + 1;
+        }
+        true
+    }
+
+    // Whether no member is marked.
+    fn none_marked(&self, marks: &Marks) -> bool
+        ensures { Decides result (Apart (mem self.now) (marked marks.now)) }
+    {
+        let mut from = 0;
+        'none: while let Some(k) = self.next(from) {
+            if marks.has(k) {
+                return false;
+            }
+            from = k + 1;
+        }
+        true
+    }
+
+    // The members as marks.
+    fn marks(&self) -> Marks
+        ensures { Same (marked result) (mem self.now) }
+    {
+        let mut marks = Marks::none();
+        let mut from = 0;
+        'marking: while let Some(k) = self.next(from) {
+            marks.set(k, true);
+            from = k + 1;
+        }
+        marks
+    }
+
+    // One more for each member, as far as a count goes.
+    fn add_to(&self, counts: &mut [usize; 256])
+        ensures { (k : ℕ) → slice_index counts.new k ≡ min (slice_index counts.old k + one (mem self.now k)) (2 ^ 64 - 1) }
+    {
+        let mut from = 0;
+        'counting: while let Some(k) = self.next(from) {
+            counts[k] = counts[k].saturating_add(1);
+            from = k + 1;
+        }
+    }
 
     // The members, in rising order.
     final fn members(&self) -> Members<'_, Self>

@@ -3,10 +3,12 @@
 
 pub mod kind;
 pub mod list;
+pub mod marks;
 pub mod members;
 pub mod word;
 
 pub use kind::{CannotHold, SetKind};
 pub use list::ListSet;
+pub use marks::Marks;
 pub use members::Members;
 pub use word::WordSet;

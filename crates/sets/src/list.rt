@@ -7,6 +7,7 @@ ghost use Rattle.sets.specs.ListLaws.{held_list, held_none, held_less};
 ghost use Rattle.std.proofs.Common.{lit≤};
 
 use crate::kind::{CannotHold, SetKind};
+use crate::marks::Marks;
 
 // How many numbers a list has room for.
 const ROOM: usize = 16;
@@ -80,30 +81,77 @@ impl SetKind for ListSet {
     }
 
     fn member(&self, k: usize) -> bool {
-        self.as_slice().iter().any(|x| usize::from(*x) == k)
+        self.next(k) == Some(k)
     }
 
     fn size(&self) -> usize {
         self.as_slice().len()
     }
 
+    // Both lists rise, so one walk over the two decides.
     fn within(&self, other: &ListSet) -> bool {
-        self.as_slice()
-            .iter()
-            .all(|x| other.member(usize::from(*x)))
+        let mut mine = self.as_slice();
+        let mut theirs = other.as_slice();
+        'walk: while let [x, rest @ ..] = mine {
+            let [y, others @ ..] = theirs else {
+                return false;
+            };
+            if y > x {
+                return false;
+            }
+            if y == x {
+                mine = rest;
+            }
+            theirs = others;
+        }
+        true
     }
 
     fn apart(&self, other: &ListSet) -> bool {
-        !self
-            .as_slice()
-            .iter()
-            .any(|x| other.member(usize::from(*x)))
+        let mut mine = self.as_slice();
+        let mut theirs = other.as_slice();
+        'walk: while let [x, rest @ ..] = mine {
+            let [y, others @ ..] = theirs else {
+                return true;
+            };
+            if x == y {
+                return false;
+            }
+            if x < y {
+                mine = rest;
+            } else {
+                theirs = others;
+            }
+        }
+        true
     }
 
     fn next(&self, k: usize) -> Option<usize> {
-        self.as_slice()
-            .iter()
-            .map(|x| usize::from(*x))
-            .find(|x| *x >= k)
+        let number = u8::try_from(k).ok()?;
+        let (Ok(at) | Err(at)) = self.as_slice().binary_search(&number);
+        self.as_slice().get(at).map(|x| usize::from(*x))
+    }
+
+    fn all_marked(&self, marks: &Marks) -> bool {
+        self.as_slice().iter().all(|x| marks.has(usize::from(*x)))
+    }
+
+    fn none_marked(&self, marks: &Marks) -> bool {
+        !self.as_slice().iter().any(|x| marks.has(usize::from(*x)))
+    }
+
+    fn marks(&self) -> Marks {
+        let mut marks = Marks::none();
+        for x in self.as_slice() {
+            marks.set(usize::from(*x), true);
+        }
+        marks
+    }
+
+    fn add_to(&self, counts: &mut [usize; 256]) {
+        for x in self.as_slice() {
+            let k = usize::from(*x);
+            counts[k] = counts[k].saturating_add(1);
+        }
     }
 }

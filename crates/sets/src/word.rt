@@ -6,6 +6,7 @@ ghost use Rattle.sets.specs.WordBelow.{word_under};
 ghost use Rattle.std.proofs.Common.{lit≤};
 
 use crate::kind::{CannotHold, SetKind};
+use crate::marks::Marks;
 
 #[derive(Clone, Copy, Debug, PartialEq, Eq)]
 pub struct WordSet {
@@ -13,7 +14,7 @@ pub struct WordSet {
 }
 
 // The word whose one bit is k.
-fn single(k: usize) -> u64
+pub(crate) fn single(k: usize) -> u64
     requires { k < 64 }
     ensures { result ≡ 2 ^ k }
 {
@@ -81,5 +82,28 @@ impl SetKind for WordSet {
         }
         let rest = self.bits & (u64::MAX << k);
         (rest != 0).then(|| rest.trailing_zeros() as usize)
+    }
+
+    fn all_marked(&self, marks: &Marks) -> bool {
+        self.bits & marks.words[0] == self.bits
+    }
+
+    fn none_marked(&self, marks: &Marks) -> bool {
+        self.bits & marks.words[0] == 0
+    }
+
+    fn marks(&self) -> Marks {
+        Marks {
+            words: [self.bits, 0, 0, 0],
+        }
+    }
+
+    fn add_to(&self, counts: &mut [usize; 256]) {
+        let mut rest = self.bits;
+        'members: while rest != 0 {
+            let k = rest.trailing_zeros() as usize;
+            counts[k] = counts[k].saturating_add(1);
+            rest &= rest - 1;
+        }
     }
 }

@@ -1,11 +1,12 @@
 -- States as sets of items. Assumes nothing.
-use Rattle.std.specs.Prelude.{ℕ, Bool, false, cond, ◌&&◌, ◌==◌, nat_lt, slice_index_or}
+use Rattle.std.specs.Prelude.{ℕ, Bool, cond, ◌&&◌, ◌==◌, nat_lt}
 use Rattle.sets.specs.Sets.{Numbers}
+use Rattle.sets.specs.Marks.{marked as marks_of}
 use Rattle.systems.specs.declared.state.State.{State}
 
 -- the items that are up
 abbrev pub up : State → Numbers
-up s k = slice_index_or s.marks k false
+up s = marks_of s.marks
 
 -- the set with the item k in it or out of it, as b says, if k is one of the n items
 abbrev pub marked : ℕ → ℕ → Bool → Numbers → Numbers

@@ -1,13 +1,16 @@
 // A state: which of a system's items are up.
-ghost use Rattle.std.specs.Prelude.{◌≡◌, ℕ, ◌≤◌, false, slice_index_or};
+ghost use Rattle.std.specs.Prelude.{◌≡◌, ℕ, ◌≤◌, false};
+ghost use Rattle.sets.specs.Marks.{marked as has_mark};
 
-// The marks from the count on are down. An array, not a vector: it allocates nothing and can be copied.
+use sets::Marks;
+
+// The marks from the count on are down.
 #[derive(Clone, Copy, Debug, PartialEq, Eq)]
 pub struct State {
     count: usize,
-    marks: [bool; 256],
+    marks: Marks,
     ghost few: { count ≤ 256 },
-    ghost down: { (k : ℕ) → count ≤ k → slice_index_or marks k false ≡ false },
+    ghost down: { (k : ℕ) → count ≤ k → has_mark marks k ≡ false },
 }
 
 impl State {
@@ -24,7 +27,7 @@ impl State {
         let count = if count > 256 { 0 } else { count };
         State {
             count,
-            marks: [false; 256],
+            marks: Marks::none(),
         }
     }
 
@@ -42,6 +45,13 @@ impl State {
         state
     }
 
+    // Which items are up, as marks.
+    pub(crate) fn marks(&self) -> &Marks
+        ensures { Same (has_mark result.now) (up self.now) }
+    {
+        &self.marks
+    }
+
     pub fn count(&self) -> usize
         ensures { result ≡ self.now.count }
     {
@@ -51,7 +61,7 @@ impl State {
     pub fn is_up(&self, item: usize) -> bool
         ensures { result ≡ up self.now item }
     {
-        item < self.count && self.marks[item]
+        self.marks.has(item)
     }
 
     // The item up or down; an item outside the count changes nothing.
@@ -60,7 +70,7 @@ impl State {
         ensures marks { Same (up self.new) (marked self.old.count item is_up (up self.old)) }
     {
         if item < self.count {
-            self.marks[item] = is_up;
+            self.marks.set(item, is_up);
         }
     }
 

@@ -10,14 +10,14 @@ use sets::SetKind;
 pub fn all_up<K: SetKind>(set: &K, state: &State) -> bool
     ensures { Decides result (Within (K.mem set.now) (up state.now)) }
 {
-    set.members().all(|item| state.is_up(item))
+    set.all_marked(state.marks())
 }
 
 // Whether all items of the set are down.
 pub fn all_down<K: SetKind>(set: &K, state: &State) -> bool
     ensures { Decides result (Apart (K.mem set.now) (up state.now)) }
 {
-    !set.members().any(|item| state.is_up(item))
+    set.none_marked(state.marks())
 }
 
 // The state of n items in which just those of the set are up.

@@ -1,14 +1,16 @@
-use Rattle.std.proofs.Common.{take, not, ap, rules, tests}
-use Rattle.std.proofs.lemmas.Bool.Decides.{Decides-at}
-use Rattle.std.proofs.lemmas.Iterator.{YieldsList-from_slice}
-use Rattle.std.proofs.lemmas.Iterator.Search.{any_from_yields_List}
-use Rattle.sets.specs.Sets.{listed}
-use Rattle.sets.proofs.Lists.{decides_none}
+use Rattle.std.proofs.Common.{arith}
+use Rattle.sets.specs.ListLaws.{decided_no}
+use Rattle.sets.proofs.TwoLists.{apart_mine, apart_theirs, apart_same}
 use Rattle.sets.proofs.list.ListSetSetKind.apart.Goals as goal
 
-pub returns : goal.returns
-returns c =
-    let others = listed (take c.args.other.now.len c.args.other.now.numbers) in
-    Decides-at (not c.any.result) _
-    (ap not (any_from_yields_List others _ _ c.any.result c.any.ensures.ran (YieldsList-from_slice _ cc) (λ x b q k. search (rules, tests))))
-    (decides_none _ others)
+pub returns-then-x-y : goal.returns-then-x-y
+returns-then-x-y c =
+    decided_no (apart_same _ _ c.walk.mine.now c.walk.theirs.now c.in-len1-up.len_at_least c.in-len1-up-theirs.len_at_least c.if-x-y.true c.walk.invariant)
+
+pub walk-preserved-then-x-y-2 : goal.walk-preserved-then-x-y-2
+walk-preserved-then-x-y-2 c =
+    apart_mine _ _ c.walk.mine.now c.walk.theirs.now c.in-len1-up.len_at_least c.in-len1-up-theirs.len_at_least c.if-x-y-2.true c.walk.invariant
+
+pub walk-preserved : goal.walk-preserved
+walk-preserved c =
+    apart_theirs _ _ c.walk.mine.now c.walk.theirs.now c.in-len1-up.len_at_least c.in-len1-up-theirs.len_at_least (omega arith) c.walk.invariant

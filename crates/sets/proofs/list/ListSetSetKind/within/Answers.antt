@@ -1,14 +1,20 @@
-use Rattle.std.proofs.Common.{take, rules, tests}
-use Rattle.std.proofs.lemmas.Bool.Decides.{Decides-at}
-use Rattle.std.proofs.lemmas.Iterator.{YieldsList-from_slice}
-use Rattle.std.proofs.lemmas.Iterator.Search.{all_from_yields_List}
-use Rattle.sets.specs.Sets.{listed}
-use Rattle.sets.proofs.Lists.{decides_all}
+use Rattle.std.proofs.Common.{sym, arith}
+use Rattle.sets.specs.ListLaws.{decided_no}
+use Rattle.sets.proofs.TwoLists.{within_both, within_skip, within_less, within_ended}
 use Rattle.sets.proofs.list.ListSetSetKind.within.Goals as goal
 
-pub returns : goal.returns
-returns c =
-    let others = listed (take c.args.other.now.len c.args.other.now.numbers) in
-    Decides-at c.all.result _
-    (all_from_yields_List others _ _ c.all.result c.all.ensures.ran (YieldsList-from_slice _ cc) (λ x b q k. search (rules, tests)))
-    (decides_all _ others)
+pub returns-in_default-theirs : goal.returns-in_default-theirs
+returns-in_default-theirs c =
+    decided_no (within_ended _ _ c.walk.mine.now c.walk.theirs.now c.in-len1-up.len_at_least c.in_default-theirs.len_below c.walk.invariant)
+
+pub returns-then-y-x : goal.returns-then-y-x
+returns-then-y-x c =
+    decided_no (within_less _ _ c.walk.mine.now c.walk.theirs.now c.in-len1-up.len_at_least c.in-len1-up-theirs.len_at_least c.if-y-x.true c.walk.invariant)
+
+pub walk-preserved-then-y-x-2 : goal.walk-preserved-then-y-x-2
+walk-preserved-then-y-x-2 c =
+    within_both _ _ c.walk.mine.now c.walk.theirs.now c.in-len1-up.len_at_least c.in-len1-up-theirs.len_at_least (sym c.if-y-x-2.true) c.walk.invariant
+
+pub walk-preserved : goal.walk-preserved
+walk-preserved c =
+    within_skip _ _ c.walk.mine.now c.walk.theirs.now c.in-len1-up.len_at_least c.in-len1-up-theirs.len_at_least (omega arith) c.walk.invariant

@@ -1,0 +1,10 @@
+use Rattle.std.proofs.Common.{◌+◌, take, length}
+use Rattle.sets.specs.Sets.{listed, Apart}
+use Rattle.sets.proofs.TwoLists.{Left}
+use Rattle.sets.proofs.list.ListSetSetKind.apart.Given as goal
+
+abbrev pub invariant-walk : goal.invariant-walk
+invariant-walk l = Left Apart (listed (take l.self.len l.self.numbers)) (listed (take l.other.len l.other.numbers)) l.mine l.theirs
+
+abbrev pub decreases-walk : goal.decreases-walk
+decreases-walk l = length l.mine + length l.theirs
