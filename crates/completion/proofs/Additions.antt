@@ -7,12 +7,12 @@ use Rattle.systems.proofs.Minimal.{minimal_path_back}
 use Rattle.tables.specs.Refusals.{answered, refused}
 use Rattle.tables.specs.Rows.{ContainsNone, stays, after_put, Sound}
 use Rattle.tables.specs.Pasts.{Accepted}
-use Rattle.tables.proofs.Sifting.{stays_yes}
+use Rattle.tables.proofs.Sifting.{stays_yes, kept_all}
 use Rattle.tables.proofs.Histories.{sound_put}
 use Rattle.completion.specs.Offers.{Offers, offer_closed, offer_unheld, offer_contains, offer_full, offer_done}
 use Rattle.completion.specs.Minimals.{Minimals, Tightened}
 use Rattle.completion.specs.Fills.{TableFull, Blocks, why_blocked}
-use Rattle.completion.proofs.RowLists.{each_push, kept_all}
+use Rattle.completion.proofs.RowLists.{each_push}
 use Rattle.completion.proofs.Minimality.{works_wider, finer_push}
 use Rattle.completion.proofs.Listing.{sound_once}
 use Rattle.completion.proofs.Pigeons.{no_room}

@@ -1,17 +1,15 @@
 -- The steps of a state whose set of items is made smaller item by item.
-use Rattle.std.proofs.Common.{◌≡◌, ℕ, ◌+◌, ◌<◌, Bool, true, false, cond, not, ◌&&◌, T, eqb, Decides, sym, refl, ap, ◌∙◌, subst, ⊎_elim, arith, below_more}
+use Rattle.std.proofs.Common.{◌≡◌, ℕ, ◌+◌, ◌<◌, Bool, true, false, cond, not, ◌&&◌, T, eqb, Decides, sym, refl, ap, ◌∙◌, subst, arith, below_more}
 use mathlib.Core.Path.{fun_ext}
-use Rattle.std.proofs.lemmas.Bool.{cases_lt, cond_both, cond-false, eqb-true, eq-eqb, lt-ltb, both_ways}
+use Rattle.std.proofs.lemmas.Bool.{cond_both, cond-false, eqb-true, eq-eqb, lt-ltb, both_ways}
 use Rattle.sets.specs.Sets.{Numbers, without, Within, Same, Below}
 use Rattle.sets.specs.Truth.{holds_true}
 use Rattle.systems.specs.States.{up, marked}
 use Rattle.systems.specs.Systems.{Structure}
 use Rattle.systems.specs.Drawings.{WorksIn}
 use Rattle.systems.specs.declared.state.State.{State}
+use Rattle.systems.proofs.UpRows.{up_below}
 use Rattle.completion.proofs.Minimality.{without_within, needed_less}
-
-pub state_below : (s : State) → Below s.count (up s)
-state_below s k t = ⊎_elim (λ lt. lt) (λ ge. absurd (subst T (s.down k ge) t)) (cases_lt k s.count)
 
 -- ---- an item that is put down, and put up again
 marked_in : (n k j : ℕ) (b : Bool) (s : Numbers) → k < n → marked n k b s j ≡ cond (eqb j k) b (s j)
@@ -67,7 +65,7 @@ pub record Shrinking (ψ : Structure) (first s : State) (k : ℕ) : Type 0 where
 
 module _ (ψ : Structure) (first s : State) (k : ℕ) where
   low : Shrinking ψ first s k → first.count ≡ ψ.items → Below ψ.items (up s)
-  low h e j t = let lt = state_below s j t in let a = h.count in omega arith
+  low h e j t = let lt = up_below s j t in let a = h.count in omega arith
 
   pub shrink_skip : up s k ≡ false → Shrinking ψ first s k → Shrinking ψ first s (k + 1)
   shrink_skip e h = record { count = h.count; within = h.within; tried = λ w. tried_skip ψ (up s) k e (h.tried w) }

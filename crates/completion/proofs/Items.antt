@@ -1,15 +1,15 @@
 -- Items that a loop collects, ascending, and the put of them.
-use Rattle.std.proofs.Common.{◌≡◌, ℕ, zero, suc, ◌+◌, ◌<◌, ◌≤◌, Bool, true, false, ◌&&◌, ◌||◌, T, eqb, ltb, List, [], ◌∷◌, ◌++◌, length, get_or, take, sym, refl, ap, ◌∙◌, subst, ap₂, inl, inr, ⊎_elim, arith}
+use Rattle.std.proofs.Common.{◌≡◌, ℕ, zero, suc, ◌+◌, ◌<◌, ◌≤◌, true, false, ◌&&◌, ◌||◌, T, eqb, ltb, List, [], ◌∷◌, ◌++◌, length, get_or, take, sym, ap, ◌∙◌, subst, ap₂, inl, inr, ⊎_elim, arith}
 use mathlib.Core.Path.{fun_ext}
 use Rattle.std.proofs.lemmas.List.{take-append-le, take_at, get_or_append_left, get_or_at, length_push}
 use Rattle.std.proofs.lemmas.Bool.{cases_lt, both_ways, and_left, le-ltb}
 use Rattle.std.proofs.lemmas.Bool.Decides.{nat_tests}
-use Rattle.sets.specs.Sets.{Numbers, nothing, with, Within, Below, listed}
+use Rattle.sets.specs.Sets.{Numbers, nothing, Within, Below, listed}
 use Rattle.sets.specs.Listing.{listed_at}
 use Rattle.sets.specs.Truth.{or_T, T_or_left, T_or_right}
 use Rattle.tables.specs.Refusals.{Reply, refused}
 use Rattle.tables.specs.Calls.{ItemRefused, no_such_item, repeated, cannot_hold, Puts, put_closed, put_item, put_contains, put_full, put_done}
-use Rattle.tables.proofs.Gathering.{pass_held}
+use Rattle.tables.proofs.Gathering.{listed_push, pass_held}
 use Rattle.completion.specs.Offers.{Offers, offer_closed, offer_unheld, offer_contains, offer_full, offer_done}
 
 -- each item stands in the list for the first time
@@ -23,15 +23,6 @@ pub record Collected (s : Numbers) (items : List ℕ) (k : ℕ) : Type 0 where
   pub distinct : Distinct items
 
 -- ---- one item more
-
-or_rotate : (a b c : Bool) → (a || (b || c)) ≡ (b || (a || c))
-or_rotate true true c = refl
-or_rotate true false c = refl
-or_rotate false b c = refl
-
-listed_push : (xs : List ℕ) (y j : ℕ) → listed (xs ++ y ∷ []) j ≡ with (listed xs) y j
-listed_push [] y j = refl
-listed_push (x ∷ xs) y j = ap (λ b. eqb j x || b) (listed_push xs y j) ∙ or_rotate (eqb j x) (eqb j y) (listed xs j)
 
 distinct_push : (xs : List ℕ) (y : ℕ) → Distinct xs → listed xs y ≡ false → Distinct (xs ++ y ∷ [])
 distinct_push xs y d new i lt =
@@ -60,7 +51,7 @@ module _ (s : Numbers) (items : List ℕ) (k : ℕ) (h : Collected s items k) wh
       let new : listed items k ≡ false = h.is k ∙ and_left (ltb k k) (s k) (le-ltb k k (omega arith)) in
       record {
         few = omega (arith, h.few, length_push items k);
-        is = λ j. listed_push items k j ∙ ap (λ b. eqb j k || b) (h.is j) ∙ step_more s k j (sym up);
+        is = λ j. ap (λ t. t j) (listed_push items k) ∙ ap (λ b. eqb j k || b) (h.is j) ∙ step_more s k j (sym up);
         distinct = distinct_push items k h.distinct new;
       }
 

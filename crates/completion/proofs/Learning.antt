@@ -11,6 +11,7 @@ use Rattle.systems.specs.Duals.{dual}
 use Rattle.systems.specs.Drawings.{WorksIn}
 use Rattle.systems.specs.declared.state.State.{State}
 use Rattle.systems.proofs.Minimal.{within_fails}
+use Rattle.systems.proofs.UpRows.{up_below}
 use Rattle.tables.specs.Pasts.{Finer}
 use Rattle.duality.specs.Halves.{Covered, Settled}
 use Rattle.duality.specs.declared.splits.Frame.{Frame}
@@ -21,7 +22,6 @@ use Rattle.completion.specs.declared.side.Side.TheVariants.{Paths, Cuts}
 use Rattle.completion.specs.declared.fault.Blocked.{Blocked}
 use Rattle.completion.specs.declared.fault.CompletionFault.{CompletionFault}
 use Rattle.completion.proofs.Minimality.{finer_refl, finer_trans, works_finer, fails_finer, others_twice}
-use Rattle.completion.proofs.Dropping.{state_below}
 
 -- ---- a table that stays
 
@@ -74,12 +74,12 @@ module _ (φ : Structure) (n : ℕ) (s f : State) (items : φ.items ≡ n) (coun
       let e = count ∙ sym items in (
         same ∙ e,
         subst (λ (v : Numbers). T ((dual φ).works v)) (sym (flipped_is φ.items e))
-            (dual_works φ (up s) (subst (λ (k : ℕ). Below k (up s)) e (state_below s)) h),
+            (dual_works φ (up s) (subst (λ (k : ℕ). Below k (up s)) e (up_below s)) h),
       )
 
   pub flipped_new : (cs : List Numbers) → EachRow cs (Below n) → (Fails cs (up s) → ⊥) → Works cs (up f) → ⊥
   flipped_new cs low h w =
-      no_cut_within n cs low (up s) (subst (λ (k : ℕ). Below k (up s)) count (state_below s)) h (subst (λ (v : Numbers). Works cs v) (flipped_is n count) w)
+      no_cut_within n cs low (up s) (subst (λ (k : ℕ). Below k (up s)) count (up_below s)) h (subst (λ (v : Numbers). Works cs v) (flipped_is n count) w)
 
 -- ---- more rows cover more
 

@@ -1,5 +1,5 @@
 -- Minimal paths and cuts item by item, and rows that have a row within them.
-use Rattle.std.proofs.Common.{◌≡◌, ℕ, ◌<◌, Bool, true, false, not, T, eqb, ltb, List, [], ◌∷◌, ◌++◌, get_or, subst, arith, eqb→eq, lt→ltb, T_not}
+use Rattle.std.proofs.Common.{◌≡◌, ℕ, ◌<◌, Bool, true, false, not, T, eqb, ltb, List, [], ◌∷◌, ◌++◌, get_or, subst, arith, lt→ltb, T_not}
 use mathlib.Core.Path.{fun_ext}
 use lib.Dec.{not_T}
 use Rattle.std.proofs.lemmas.List.{get_or_append_left, length_push}
@@ -17,18 +17,11 @@ holds_unless false h = absurd (h (λ t. t))
 
 -- ---- without an item
 
-without_in : (s : Numbers) (j k : ℕ) → (k ≡ j → ⊥) → T (s k) → T (without s j k)
-without_in s j k ne t = T_and (not (eqb k j)) (s k) (not_T (eqb k j) (λ e. ne (eqb→eq k j e))) t
-
 pub without_within : (s : Numbers) (j : ℕ) → Within (without s j) s
 without_within s j k t = (and_T (not (eqb k j)) (s k) t).1
 
 without_less : (s t : Numbers) (j : ℕ) → Within s t → Within (without s j) (without t j)
 without_less s t j h k m = let p = and_T (not (eqb k j)) (s k) m in T_and (not (eqb k j)) (t k) p.0 (h k p.1)
-
--- what lacks j lies within the rest
-without_lacking : (s t : Numbers) (j : ℕ) → Within s t → (T (s j) → ⊥) → Within s (without t j)
-without_lacking s t j h out k m = without_in t j k (λ e. out (subst (λ i. T (s i)) e m)) (h k m)
 
 -- ---- the items that a set leaves
 
@@ -50,15 +43,6 @@ others_twice n s low = fun_ext (within_both (others n (others n s)) s (twice_wit
 -- ---- minimal, item by item
 
 module _ (ψ : Structure) where
-  -- what works with each item needed is minimal
-  pub needed_minimal : (p : Numbers) → Below ψ.items p → T (ψ.works p) → ((j : ℕ) → T (p j) → T (ψ.works (without p j)) → ⊥) → MinimalPath ψ p
-  needed_minimal p low works needed = record {
-    items = low;
-    works = works;
-    least = λ q h t. h.1 (λ j m. holds_unless (q j) (λ out. needed j m
-        (ψ.monotone q (without p j) (λ k u. low k (h.0 k u)) (λ k u. low k (without_within p j k u)) (without_lacking q p j h.0 out) t)));
-  }
-
   -- what is needed stays needed once other items are gone
   pub needed_less : (p q : Numbers) (j : ℕ) → Below ψ.items p → Within q p → (T (ψ.works (without p j)) → ⊥) → T (ψ.works (without q j)) → ⊥
   needed_less p q j low h needed t =

@@ -1,5 +1,5 @@
 -- Whole runs: one more call behind a run.
-use Rattle.std.proofs.Common.{◌≡◌, ℕ, ◌+◌, ◌<◌, ◌≤◌, List, [], ◌∷◌, ◌++◌, length, get_or, take, set, Result, sym, ap, ◌∙◌, subst, arith}
+use Rattle.std.proofs.Common.{◌≡◌, ℕ, ◌+◌, ◌<◌, ◌≤◌, List, [], ◌∷◌, ◌++◌, length, get_or, take, set, Result, sym, subst}
 use Rattle.std.proofs.lemmas.List.{take_more, take_more_set, take-append-le}
 use Rattle.sets.specs.Sets.{Numbers}
 use Rattle.sets.specs.declared.kind.SetKind.{Ghosts}

@@ -1,5 +1,5 @@
 -- Lists of rows: what holds of each, and a row within a set.
-use Rattle.std.proofs.Common.{◌≡◌, ℕ, zero, suc, ◌+◌, ◌<◌, Bool, true, List, [], ◌∷◌, ◌++◌, length, get_or, take, drop, filter, sym, refl, ap, ◌∙◌, subst, inl, inr, arith}
+use Rattle.std.proofs.Common.{◌≡◌, ℕ, zero, suc, ◌+◌, ◌<◌, Bool, true, List, [], ◌∷◌, ◌++◌, length, get_or, take, drop, filter, sym, refl, ap, subst, inl, inr, arith}
 use Rattle.std.specs.List.{remove}
 use Rattle.std.proofs.lemmas.Bool.{cases_Bool, cond-true, cond-false}
 use Rattle.std.proofs.lemmas.List.{length-append, length_push, get_or_append_left, get_or-append-add, get_or_push}
@@ -29,10 +29,6 @@ module _ (P : Numbers → Type 0) where
   each_removed xs at e i h =
       let all = All-from_get_or P xs nothing e in
       All-get_or P (remove xs at) i nothing h (All-append P (take at xs) (drop (suc at) xs) (All-take P at xs all) (All-drop P (suc at) xs all))
-
-pub kept_all : (q : Numbers → Bool) (xs : List Numbers) → EachRow xs (λ r. q r ≡ true) → filter q xs ≡ xs
-kept_all q [] e = refl
-kept_all q (x ∷ xs) e = cond-true (q x) (x ∷ filter q xs) (filter q xs) (e 0 (omega arith)) ∙ ap (λ l. x ∷ l) (kept_all q xs (λ i h. e (suc i) (omega arith)))
 
 -- ---- a row within a set
 

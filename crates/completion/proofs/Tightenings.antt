@@ -10,13 +10,13 @@ use Rattle.systems.specs.Systems.{Structure, ProperSubset, MinimalPath, Works, E
 use Rattle.systems.proofs.Minimal.{minimal_path_back}
 use Rattle.tables.specs.Rows.{ContainsNone, Sound, stays, staying, after_put}
 use Rattle.tables.specs.Pasts.{Finer}
-use Rattle.tables.proofs.Sifting.{stays_yes, stays_no, kept_fewer}
+use Rattle.tables.proofs.Sifting.{stays_yes, stays_no, kept_fewer, kept_all}
 use Rattle.tables.proofs.Histories.{sound_put, sound_struck}
 use Rattle.completion.specs.Minimals.{Tightened}
 use Rattle.completion.specs.Offers.{Replaced, replace_put, replace_struck}
 use Rattle.completion.specs.Completions.{PathBorne}
 use Rattle.completion.proofs.Minimality.{finer_refl, finer_trans}
-use Rattle.completion.proofs.RowLists.{each_left, each_right, each_append, each_push, each_kept, each_removed, kept_all, works_front, works_last, works_kept, works_removed, removed_at}
+use Rattle.completion.proofs.RowLists.{each_left, each_right, each_append, each_push, each_kept, each_removed, works_front, works_last, works_kept, works_removed, removed_at}
 
 -- ---- each row has a row within it
 

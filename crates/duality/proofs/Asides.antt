@@ -1,9 +1,9 @@
 -- The rows that a search has dropped are left in no half below the split at which they were.
-use Rattle.std.proofs.Common.{◌≡◌, ℕ, zero, suc, ◌+◌, ◌<◌, ◌≤◌, Bool, true, false, cond, not, ◌&&◌, ◌||◌, ◌⊎◌, List, [], ◌∷◌, map, length, get_or, set, filter, eqb, sym, refl, ap, ◌∙◌, subst, inl, inr, ⊎_elim, arith, nat_lt, Decides}
+use Rattle.std.proofs.Common.{◌≡◌, ℕ, zero, suc, ◌+◌, ◌<◌, ◌≤◌, Bool, true, false, cond, not, ◌&&◌, ◌||◌, ◌⊎◌, List, [], ◌∷◌, map, length, get_or, set, eqb, sym, refl, ap, ◌∙◌, subst, inl, inr, ⊎_elim, arith, nat_lt, Decides}
 use Rattle.std.specs.List.{list_any, count_by}
 use Rattle.std.proofs.lemmas.Bool.{true≢false, false≢true, cond_both, eqb-true, lt-ltb}
 use Rattle.std.proofs.lemmas.List.{get_or-set_same, get_or-set_other}
-use Rattle.std.proofs.lemmas.List.Sums.{sum_by-cons, length-filter}
+use Rattle.std.proofs.lemmas.List.Sums.{sum_by-cons}
 use Rattle.sets.specs.Sets.{Numbers, Below, within_below}
 use Rattle.systems.specs.States.{up}
 use Rattle.systems.specs.Systems.{Works, Fails}
@@ -11,11 +11,10 @@ use Rattle.systems.specs.declared.state.State.{State}
 use Rattle.tables.specs.Memory.{meant}
 use Rattle.tables.specs.declared.row.Row.{Row}
 use Rattle.duality.specs.Halves.{turned, backed, least, greatest, Fresh, Half}
-use Rattle.duality.specs.Shares.{Tallied, having, is_within, is_apart, left_paths, left_cuts}
+use Rattle.duality.specs.Shares.{is_within, is_apart}
 use Rattle.duality.specs.Remaining.{Alike, Stronger, any_row, Sifted, kept, gone_back, standing}
 use Rattle.duality.specs.declared.splits.Frame.{Frame}
 use Rattle.duality.specs.declared.left.Left.{Left}
-use Rattle.duality.specs.declared.tally.Tally.{Tally}
 use Rattle.duality.proofs.Sifting.{alike_then, alike_under, any_map}
 use Rattle.duality.proofs.RowFacts.{decides_works, decides_fails}
 
@@ -91,33 +90,7 @@ module _ (n : ℕ) (fs : List Frame) (low high : State) (h : Half n fs low high)
   cut_down = stronger_apart (up high) (least fs) (λ k e. h.highs k ∙ lows_high n fs k e)
 
 -- ---- what is said of the rows that stand holds of all
-filter_both : (p q : Numbers → Bool) (xs : List Numbers) → filter q (filter p xs) ≡ filter (λ x. p x && q x) xs
-filter_both p q [] = refl
-filter_both p q (x ∷ xs) = go (filter_both p q xs) (p x) where
-  go : filter q (filter p xs) ≡ filter (λ y. p y && q y) xs → (b : Bool) → filter q (cond b (x ∷ filter p xs) (filter p xs)) ≡ cond (b && q x) (x ∷ filter (λ y. p y && q y) xs) (filter (λ y. p y && q y) xs)
-  go e true = ap (λ l. cond (q x) (x ∷ l) l) e
-  go e false = e
-
-first_true : (a b : Bool) → (a && b) ≡ true → a ≡ true
-first_true true b e = refl
-first_true false b e = absurd (false≢true e)
-
 module _ {test : Numbers → Bool} {all some : List Numbers} (h : Alike test all some) where
-  as_many : (q : Numbers → Bool) → Stronger q test → length (filter q some) ≡ length (filter q all)
-  as_many q s = length-filter q some ∙ sym (h.alike q s) ∙ sym (length-filter q all)
-
-  tallied_all : {t : Tally} → Tallied (filter test some) t → Tallied (filter test all) t
-  unfolding having
-  tallied_all {t} k = record {
-    count = k.count ∙ as_many test (λ r e. e);
-    each = λ i.
-        let q : Numbers → Bool = λ r. r i in
-        k.each i
-        ∙ ap length (filter_both test q some)
-        ∙ as_many (λ r. test r && r i) (λ r. first_true (test r) (r i))
-        ∙ ap length (sym (filter_both test q all));
-  }
-
   one_counts : (b a : Bool) (m : ℕ) → a ≡ nat_lt 0 m → (b || a) ≡ nat_lt 0 (cond b 1 0 + m)
   one_counts true a m e = sym (lt-ltb 0 (1 + m) (omega arith))
   one_counts false a m e = e ∙ ap (nat_lt 0) (omega arith)
@@ -206,48 +179,50 @@ module _ (A : List Frame → Numbers → Bool) (all : List Numbers) where
         })
 
 -- ---- the same of the rows that stand in a `Left`
-abbrev pub AsideOf : {X : Type 0} → (X → Numbers) → List Numbers → (List Frame → Numbers → Bool) → Left X → List Frame → Type 0
-AsideOf mem all A left fs = Aside A all (standing mem left) left.counts left.count fs
+abbrev pub AsideOf : {M K : Type 0} → (M → Numbers) → (K → Numbers) → List Numbers → (List Frame → Numbers → Bool) → Left M K → List Frame → Type 0
+AsideOf bits mem all A left fs = Aside A all (standing bits mem left) left.counts left.count fs
 
-module _ {X : Type 0} (mem : X → Numbers) (all : List Numbers) (A : List Frame → Numbers → Bool) where
-  pub left_sifted : (test : Numbers → Bool) (before after : Left X) (fs : List Frame) → Sifted mem test before after → Stronger (A fs) test → AsideOf mem all A before fs → AsideOf mem all A after fs
+module _ {M K : Type 0} (bits : M → Numbers) (mem : K → Numbers) (all : List Numbers) (A : List Frame → Numbers → Bool) where
+  pub left_sifted : (test : Numbers → Bool) (before after : Left M K) (fs : List Frame) → Sifted bits mem test before after → Stronger (A fs) test → AsideOf bits mem all A before fs → AsideOf bits mem all A after fs
   left_sifted test before after fs s w k =
-      subst (λ counts. Aside A all (standing mem after) counts after.count fs) (sym s.counts)
-      (aside_sifted A all (standing mem before) (standing mem after) before.counts before.count after.count fs s.fewer s.others (alike_under w s.left) k)
+      subst (λ counts. Aside A all (standing bits mem after) counts after.count fs) (sym s.counts)
+      (aside_sifted A all (standing bits mem before) (standing bits mem after) before.counts before.count after.count fs s.fewer s.others (alike_under w s.left) k)
 
-  pub left_kept : (left after : Left X) (f : Frame) (fs gs : List Frame) → after ≡ kept left (length fs) → gs ≡ f ∷ fs → length fs < length left.counts → Stronger (A (f ∷ fs)) (A fs) → AsideOf mem all A left fs → AsideOf mem all A after gs
+  pub left_kept : (left after : Left M K) (f : Frame) (fs gs : List Frame) → after ≡ kept left (length fs) → gs ≡ f ∷ fs → length fs < length left.counts → Stronger (A (f ∷ fs)) (A fs) → AsideOf bits mem all A left fs → AsideOf bits mem all A after gs
   unfolding standing
   left_kept left after f fs gs e i lt w k =
-      subst (λ hs. AsideOf mem all A after hs) (sym i)
-      (subst (λ l. AsideOf mem all A l (f ∷ fs)) (sym e) (aside_push A all (standing mem left) left.counts left.count f fs lt w k))
+      subst (λ hs. AsideOf bits mem all A after hs) (sym i)
+      (subst (λ l. AsideOf bits mem all A l (f ∷ fs)) (sym e) (aside_push A all (standing bits mem left) left.counts left.count f fs lt w k))
 
-  pub left_back : (left after : Left X) (split : ℕ) (fs gs : List Frame) → after ≡ gone_back left split → gs ≡ backed fs → length gs ≡ split + 1 → ((f : Frame) (rest : List Frame) → gs ≡ f ∷ rest → Stronger (A (f ∷ rest)) (A rest)) → AsideOf mem all A left fs → AsideOf mem all A after gs
+  pub left_back : (left after : Left M K) (split : ℕ) (fs gs : List Frame) → after ≡ gone_back left split → gs ≡ backed fs → length gs ≡ split + 1 → ((f : Frame) (rest : List Frame) → gs ≡ f ∷ rest → Stronger (A (f ∷ rest)) (A rest)) → AsideOf bits mem all A left fs → AsideOf bits mem all A after gs
   unfolding standing
   left_back left after split fs gs e i long w k =
-      subst (λ l. AsideOf mem all A l gs) (sym e) (aside_back A all (standing mem left) left.counts left.count split fs gs k i long w)
+      subst (λ l. AsideOf bits mem all A l gs) (sym e) (aside_back A all (standing bits mem left) left.counts left.count split fs gs k i long w)
 
 -- ---- what the rows that stand tell of a half
 either_decides : {A B : Type 0} (a b : Bool) → Decides a A → Decides b B → Decides (a || b) (A ⊎ B)
 either_decides true b p q = ((λ _. inl (p.0 refl)), λ _. refl)
 either_decides false b p q = ((λ e. inr (q.0 e)), (λ s. ⊎_elim (λ w. absurd (false≢true (p.1 w))) (λ d. q.1 d) s))
 
-module _ {X : Type 0} (mem : X → Numbers) (low256 : (x : X) → Below 256 (mem x)) (paths cuts : List (Row X)) (n : ℕ) (fs : List Frame) (low high : State) (h : Half n fs low high) (some_paths some_cuts : Left X)
-    (ps : AsideOf mem (map (meant mem) paths) (left_path n) some_paths fs) (cs : AsideOf mem (map (meant mem) cuts) left_cut some_cuts fs) where
+module _ {M K : Type 0} (bits : M → Numbers) (mem : K → Numbers) (low256 : (x : K) → Below 256 (mem x)) (paths cuts : List (Row K)) (n : ℕ) (fs : List Frame) (low high : State) (h : Half n fs low high) (some_paths some_cuts : Left M K)
+    (ps : AsideOf bits mem (map (meant mem) paths) (left_path n) some_paths fs) (cs : AsideOf bits mem (map (meant mem) cuts) left_cut some_cuts fs) where
   -- whether it is closed
-  pub decides_closed : (closed : Bool) → closed ≡ (list_any (λ p. is_within p (up low)) (standing mem some_paths some_paths.count) || list_any (λ c. is_apart c (up high)) (standing mem some_cuts some_cuts.count))
+  pub decides_closed : (closed : Bool) → closed ≡ (list_any (λ p. is_within p (up low)) (standing bits mem some_paths some_paths.count) || list_any (λ c. is_apart c (up high)) (standing bits mem some_cuts some_cuts.count))
       → Decides closed (Works (map (meant mem) paths) (up low) ⊎ Fails (map (meant mem) cuts) (up high))
   decides_closed closed e =
       let p : Numbers → Bool = λ r. is_within r (up low) in
       let q : Numbers → Bool = λ r. is_apart r (up high) in
-      let works = decides_works (meant mem) paths (λ x. low256 x.set) (up low) (list_any p (standing mem some_paths some_paths.count)) (any_all ps.here p (path_up n fs low high h) ∙ any_map p (meant mem) paths) in
-      let fails = decides_fails (meant mem) cuts (λ x. low256 x.set) (up high) (list_any q (standing mem some_cuts some_cuts.count)) (any_all cs.here q (cut_down n fs low high h) ∙ any_map q (meant mem) cuts) in
+      let works = decides_works (meant mem) paths (λ x. low256 x.set) (up low) (list_any p (standing bits mem some_paths some_paths.count)) (any_all ps.here p (path_up n fs low high h) ∙ any_map p (meant mem) paths) in
+      let fails = decides_fails (meant mem) cuts (λ x. low256 x.set) (up high) (list_any q (standing bits mem some_cuts some_cuts.count)) (any_all cs.here q (cut_down n fs low high h) ∙ any_map q (meant mem) cuts) in
       subst (λ b. Decides b (Works (map (meant mem) paths) (up low) ⊎ Fails (map (meant mem) cuts) (up high))) (sym e) (either_decides _ _ works fails)
 
-  -- the tallies are of all rows that are left
-  pub tallied_paths : {t : Tally} → Tallied (left_paths (standing mem some_paths some_paths.count) (up high)) t → Tallied (left_paths (map (meant mem) paths) (up high)) t
-  unfolding left_paths
-  tallied_paths k = tallied_all (alike_under (path_there n fs low high h) ps.here) k
+  -- whether a path is up in the greatest state, or a cut down in the least
+  pub decides_path : (left : Bool) → left ≡ list_any (λ p. is_within p (up high)) (standing bits mem some_paths some_paths.count) → Decides left (Works (map (meant mem) paths) (up high))
+  decides_path left e =
+      let p : Numbers → Bool = λ r. is_within r (up high) in
+      decides_works (meant mem) paths (λ x. low256 x.set) (up high) left (e ∙ any_all ps.here p (path_there n fs low high h) ∙ any_map p (meant mem) paths)
 
-  pub tallied_cuts : {t : Tally} → Tallied (left_cuts (standing mem some_cuts some_cuts.count) (up low)) t → Tallied (left_cuts (map (meant mem) cuts) (up low)) t
-  unfolding left_cuts
-  tallied_cuts k = tallied_all (alike_under (cut_there n fs low high h) cs.here) k
+  pub decides_cut : (left : Bool) → left ≡ list_any (λ c. is_apart c (up low)) (standing bits mem some_cuts some_cuts.count) → Decides left (Fails (map (meant mem) cuts) (up low))
+  decides_cut left e =
+      let q : Numbers → Bool = λ r. is_apart r (up low) in
+      decides_fails (meant mem) cuts (λ x. low256 x.set) (up low) left (e ∙ any_all cs.here q (cut_there n fs low high h) ∙ any_map q (meant mem) cuts)

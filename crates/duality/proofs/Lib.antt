@@ -1,10 +1,12 @@
 pub mod RowFacts
 pub mod Tallies
+pub mod Planes
+pub mod Masking
 pub mod Sifting
 pub mod Stacking
 pub mod Halving
 pub mod Findings
-pub mod Leftover
 pub mod Asides
 pub mod Choosing
 pub mod Judging
+pub mod Blocking

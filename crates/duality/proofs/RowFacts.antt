@@ -82,7 +82,7 @@ module _ {X : Type 0} (f : X → Numbers) (xs : List X) (low : (x : X) → Below
       )
 
 -- ---- what `find` finds among the rows
-at_map : {X : Type 0} (f : X → Numbers) (xs : List X) (P : Numbers → Type 0) (k : ℕ) → k < length xs → HoldsAt (λ x. P (f x)) xs k → P (get_or (map f xs) k nothing)
+pub at_map : {X : Type 0} (f : X → Numbers) (xs : List X) (P : Numbers → Type 0) (k : ℕ) → k < length xs → HoldsAt (λ x. P (f x)) xs k → P (get_or (map f xs) k nothing)
 at_map f [] P k lt h = absurd (omega arith)
 at_map f (x ∷ xs) P k lt h = subst P (sym (get_or-map f (x ∷ xs) k x nothing lt)) (h x)
 

@@ -1,17 +1,18 @@
 -- The rows that may be left, before and after some are dropped.
-use Rattle.std.proofs.Common.{Bor, ◌≡◌, ℕ, ◌+◌, ◌-◌, ◌<◌, ◌≤◌, Bool, true, false, cond, ◌||◌, List, [], ◌∷◌, ◌++◌, map, length, get_or, take, drop, filter, replicate, min, sym, refl, ap, ◌∙◌, subst, arith}
+use Rattle.std.proofs.Common.{◌≡◌, ℕ, suc, nat_lt, ◌+◌, ◌-◌, ◌<◌, ◌≤◌, Bool, true, false, cond, ◌||◌, List, [], ◌∷◌, ◌++◌, map, length, get_or, take, drop, filter, replicate, sym, refl, ap, ◌∙◌, subst, arith}
 use Rattle.std.specs.List.{All, count_by, sum_by, list_any}
 use Rattle.std.specs.List.Sorted.{IsPermutation}
-use Rattle.std.proofs.lemmas.Bool.{true≢false}
-use Rattle.std.proofs.lemmas.List.{map-append, get_or-map, length-map, take-append-drop, length-take, length-take-le, length-replicate, get_or-take, get_or_default, take-map, take-take, take_at, take-append-le, drop_at, drop-take, ext_get_or}
-use Rattle.std.proofs.lemmas.List.Elements.{All-replicate, All-take, All-weaker, filter-append}
+use Rattle.std.proofs.lemmas.Bool.{true≢false, lt-ltb}
+use Rattle.std.proofs.lemmas.List.{length-map, length-replicate, take-map, get_or-take, map-append, length-append, length-drop, take_all, take-append-drop, length-take-le, take-take, take_at, take-append-le, drop_at, drop-take}
 use Rattle.std.proofs.lemmas.List.Sums.{sum_by-cons, sum_by-append}
 use Rattle.std.proofs.lemmas.List.Folds.{list_any-append}
-use Rattle.std.proofs.lemmas.List.Sorted.{sum_by-IsPermutation, IsPermutation-append_comm, IsPermutation-append_left, IsPermutation-map, All-permutation, length_permutation}
+use Rattle.std.proofs.lemmas.List.Sorted.{sum_by-IsPermutation, IsPermutation-append_comm, IsPermutation-append_left, IsPermutation-map, length_permutation}
+use Rattle.std.proofs.lemmas.List.Elements.{All-replicate}
 use Rattle.sets.specs.Sets.{Numbers, nothing}
+use Rattle.systems.specs.Systems.{EachRow}
 use Rattle.tables.specs.Memory.{meant}
 use Rattle.tables.specs.declared.row.Row.{Row}
-use Rattle.duality.specs.Remaining.{row_of, Alike, Stronger, any_row, standing, Fits, Sifted}
+use Rattle.duality.specs.Remaining.{Alike, Stronger, any_row, standing, Fits, Sifted}
 use Rattle.duality.specs.declared.left.Left.{Left}
 
 -- ---- lists in which the same rows pass
@@ -50,57 +51,48 @@ module _ {test : Numbers → Bool} where
 pub alike_under : {test other : Numbers → Bool} {xs ys : List Numbers} → Stronger other test → Alike test xs ys → Alike other xs ys
 alike_under w h = record { alike = λ q s. h.alike q (λ r e. w r (s r e)) }
 
--- the row x is read at place j
-pub row_read : {X : Type 0} (mem : X → Numbers) (rows : List (Row X)) (j : ℕ) (x : Row X) → j < length rows → x ≡ get_or rows j x → row_of mem rows j ≡ meant mem x
-row_read mem rows j x lt is = get_or-map (meant mem) rows j x nothing lt ∙ ap (meant mem) (sym is)
-
 pub any_map : {X Y : Type 0} (p : Y → Bool) (f : X → Y) (xs : List X) → list_any p (map f xs) ≡ list_any (λ x. p (f x)) xs
 any_map p f [] = refl
 any_map p f (x ∷ xs) = ap (λ b. p (f x) || b) (any_map p f xs)
 
-pub any_standing : {X : Type 0} (test : Numbers → Bool) (mem : X → Numbers) (left : Left X) (rest : List (Row X)) → rest ≡ drop left.numbered left.rows.now
-    → list_any test (standing mem left left.count) ≡ (list_any test (map (meant mem) rest) || list_any (λ j. test (row_of mem left.rows.now j)) (take left.count left.order))
+-- what passes among the masks in question and the rows that have none
+pub any_standing : {M K : Type 0} (test : Numbers → Bool) (bits : M → Numbers) (mem : K → Numbers) (left : Left M K) (masks : List M) (behind : List (Row K)) → masks ≡ take left.count left.masks.now → behind ≡ left.behind.now
+    → list_any test (standing bits mem left left.count) ≡ (list_any (λ x. test (meant mem x)) behind || list_any (λ m. test (bits m)) masks)
 unfolding standing
-any_standing test mem left rest e =
-    let of = row_of mem left.rows.now in
-    list_any-append test (map (meant mem) (drop left.numbered left.rows.now)) (map of (take left.count left.order))
-    ∙ ap (λ xs. list_any test (map (meant mem) xs) || list_any test (map of (take left.count left.order))) (sym e)
-    ∙ ap (λ b. list_any test (map (meant mem) rest) || b) (any_map test of (take left.count left.order))
+any_standing test bits mem left masks behind e i =
+    list_any-append test (map (meant mem) left.behind.now) (map bits (take left.count left.masks.now))
+    ∙ ap (λ xs. list_any test (map (meant mem) xs) || list_any test (map bits (take left.count left.masks.now))) (sym i)
+    ∙ ap (λ xs. list_any test (map (meant mem) behind) || list_any test (map bits xs)) (sym e)
+    ∙ ap (λ b. b || list_any test (map bits masks)) (any_map test (meant mem) behind)
+    ∙ ap (λ b. list_any (λ x. test (meant mem x)) behind || b) (any_map test bits masks)
 
--- ---- at the start, where the numbers are in order
-module _ {X : Type 0} (rows : Bor (List (Row X))) (n : ℕ) (least : n ≡ min (length rows.now) 4096) (order : List ℕ) (long : length order ≡ 4096) (each : (j : ℕ) → j < n → get_or order j 0 ≡ j) where
-  pub fits_all : Fits (record { rows = rows; numbered = n; order = order; count = n; counts = replicate 256 n })
-  fits_all = record {
-    rows = omega arith;
-    most = omega arith;
-    inside = omega arith;
-    below = λ k d lt.
-        let l : k < n = omega (arith, length-take n order) in
-        let is : get_or (take n order) k d ≡ k = get_or-take n order k d l ∙ get_or_default order k d 0 (omega arith) ∙ each k l in
-        omega arith;
-    long = length-replicate 256 n;
-    kept = All-replicate (λ c. c ≤ n) 256 n (omega arith);
-  }
+-- at the start all rows stand
+pub standing_all : {M K : Type 0} (bits : M → Numbers) (mem : K → Numbers) (left : Left M K) (first rows : List (Row K)) → rows ≡ first ++ left.behind.now → map bits left.masks.now ≡ map (meant mem) first → left.count ≡ length left.masks.now
+    → Alike any_row (map (meant mem) rows) (standing bits mem left left.count)
+unfolding standing
+standing_all bits mem left first rows e i all =
+    let behind = left.behind.now in
+    let whole : map (meant mem) rows ≡ map (meant mem) first ++ map (meant mem) behind = ap (map (meant mem)) e ∙ map-append (meant mem) first behind in
+    let taken : map bits (take left.count left.masks.now) ≡ map (meant mem) first = ap (map bits) (take_all left.count left.masks.now (omega (arith, all))) ∙ i in
+    subst (λ ys. Alike any_row ys (map (meant mem) behind ++ map bits (take left.count left.masks.now))) (sym whole)
+    (subst (λ ys. Alike any_row (map (meant mem) first ++ map (meant mem) behind) (map (meant mem) behind ++ ys)) (sym taken)
+    (alike_moved (IsPermutation-append_comm (map (meant mem) first) (map (meant mem) behind))))
 
-  pub standing_all : (mem : X → Numbers) (counts : List ℕ) → Alike any_row (map (meant mem) rows.now) (standing mem (record { rows = rows; numbered = n; order = order; count = n; counts = counts }) n)
-  unfolding standing
-  standing_all mem counts =
-      let f = meant mem in
-      let xs = rows.now in
-      let of = row_of mem xs in
-      let many : length (take n order) ≡ n = length-take-le n order (omega arith) in
-      let same : map of (take n order) ≡ map f (take n xs) =
-      ext_get_or nothing (map of (take n order)) (map f (take n xs)) (simp length-map (many ∙ sym (length-take-le n xs (omega arith))))
-      (λ i lt.
-      let l : i < n = simp (length-map, many) at lt in
-      let at' : get_or (take n order) i 0 ≡ i = get_or-take n order i 0 l ∙ each i l in
-      get_or-map of (take n order) i 0 nothing (omega (arith, many)) ∙ ap of at' ∙ sym (get_or-take n (map f xs) i nothing l) ∙ ap (λ ys. get_or ys i nothing) (take-map f n xs)) in
-      let whole : map f xs ≡ map f (take n xs) ++ map f (drop n xs) = ap (map f) (sym (take-append-drop n xs)) ∙ map-append f (take n xs) (drop n xs) in
-      subst (λ ys. Alike any_row ys (map f (drop n xs) ++ map of (take n order))) (sym whole)
-      (subst (λ ys. Alike any_row (map f (take n xs) ++ map f (drop n xs)) (map f (drop n xs) ++ ys)) (sym same)
-      (alike_moved (IsPermutation-append_comm (map f (take n xs)) (map f (drop n xs)))))
+pub fits_all : {M K : Type 0} (left : Left M K) (n : ℕ) → left.count ≡ n → length left.masks.now ≡ n → n ≤ 4096 → left.counts ≡ replicate 256 n → Fits left
+fits_all left n count long few counts = record {
+  most = omega (arith, long, few);
+  inside = omega (arith, long, count);
+  long = ap length counts ∙ length-replicate 256 n;
+  kept = subst (All (λ c. c ≤ length left.masks.now)) (sym counts) (All-replicate (λ c. c ≤ length left.masks.now) 256 n (omega (arith, long)));
+}
 
--- ---- once the numbers in the first places are moved, and fewer of them are kept
+-- what holds of each row holds of each of the first
+pub each_first : {X : Type 0} (f : X → Numbers) (P : Numbers → Type 0) (xs ys : List X) (n : ℕ) → ys ≡ take n xs → n ≤ length xs → EachRow (map f xs) P → EachRow (map f ys) P
+each_first f P xs ys n e le h i lt =
+    let l : i < n = omega (arith, length-map ys f, ap length e, length-take-le n xs le) in
+    subst P (sym (ap (λ zs. get_or (map f zs) i nothing) e ∙ ap (λ zs. get_or zs i nothing) (sym (take-map f n xs)) ∙ get_or-take n (map f xs) i nothing l)) (h i (omega (arith, length-map xs f)))
+
+-- ---- once the masks in the first places are moved, and fewer of them are kept
 take_split : {X : Type 0} (k c : ℕ) (xs : List X) → k ≤ c → take c xs ≡ take k xs ++ take (c - k) (drop k xs)
 take_split k c xs le =
     let e : k + (c - k) ≡ c = omega arith in
@@ -115,72 +107,80 @@ map_filter f test (x ∷ xs) = go (map_filter f test xs) (test (f x)) where
   go e true = ap (λ l. f x ∷ l) e
   go e false = e
 
--- what `left` is then
-abbrev pub sifted : {X : Type 0} → Left X → List ℕ → ℕ → Left X
-sifted left numbers stay = record { rows = left.rows; numbered = left.numbered; order = numbers ++ drop left.count left.order; count = stay; counts = left.counts }
+module _ {X : Type 0} (masks : List X) (count : ℕ) (inside : count ≤ length masks) (front : List X) (moved : IsPermutation (take count masks) front) where
+  many : length front ≡ count
+  many = length_permutation (take count masks) front moved ∙ length-take-le count masks inside
 
-module _ {X : Type 0} (left : Left X) (h : Fits left) (long : length left.order ≡ 4096) (numbers : List ℕ) (moved : IsPermutation (take left.count left.order) numbers) where
-  many : length numbers ≡ left.count
-  many = length_permutation (take left.count left.order) numbers moved ∙ length-take-le left.count left.order (omega (arith, h.inside, h.most))
+  pub as_many : length (front ++ drop count masks) ≡ length masks
+  as_many = omega (arith, length-append front (drop count masks), length-drop count masks, many, inside)
 
-  moved_more : (c : ℕ) → left.count ≤ c → IsPermutation (take c left.order) (numbers ++ take (c - left.count) (drop left.count left.order))
+  moved_more : (c : ℕ) → count ≤ c → IsPermutation (take c masks) (front ++ take (c - count) (drop count masks))
   moved_more c le =
-      subst (λ l. IsPermutation l (numbers ++ take (c - left.count) (drop left.count left.order))) (sym (take_split left.count c left.order le))
-      (IsPermutation-append_left (take (c - left.count) (drop left.count left.order)) (take left.count left.order) numbers moved)
+      subst (λ l. IsPermutation l (front ++ take (c - count) (drop count masks))) (sym (take_split count c masks le))
+      (IsPermutation-append_left (take (c - count) (drop count masks)) (take count masks) front moved)
 
-  taken : (c : ℕ) → left.count ≤ c → take c (numbers ++ drop left.count left.order) ≡ numbers ++ take (c - left.count) (drop left.count left.order)
+  taken : (c : ℕ) → count ≤ c → take c (front ++ drop count masks) ≡ front ++ take (c - count) (drop count masks)
   taken c le =
-      let rest = drop left.count left.order in
-      take_split left.count c (numbers ++ rest) le
-      ∙ ap (λ l. l ++ take (c - left.count) (drop left.count (numbers ++ rest))) (take_at numbers rest left.count many)
-      ∙ ap (λ l. numbers ++ take (c - left.count) l) (drop_at numbers rest left.count many)
+      let rest = drop count masks in
+      take_split count c (front ++ rest) le
+      ∙ ap (λ l. l ++ take (c - count) (drop count (front ++ rest))) (take_at front rest count many)
+      ∙ ap (λ l. front ++ take (c - count) l) (drop_at front rest count many)
 
-  moved_to : (c : ℕ) → left.count ≤ c → IsPermutation (take c left.order) (take c (numbers ++ drop left.count left.order))
-  moved_to c le = subst (IsPermutation (take c left.order)) (sym (taken c le)) (moved_more c le)
+  pub moved_to : (c : ℕ) → count ≤ c → IsPermutation (take c masks) (take c (front ++ drop count masks))
+  moved_to c le = subst (IsPermutation (take c masks)) (sym (taken c le)) (moved_more c le)
 
-  -- the numbers before the move are below the length
-  below_before : All (λ j. j < length left.rows.now) (take left.count left.order)
-  below_before =
-      let all = subst (All (λ j. j < left.numbered)) (take-take left.count left.numbered left.order h.inside) (All-take (λ j. j < left.numbered) left.count (take left.numbered left.order) h.below) in
-      All-weaker (λ j. j < left.numbered) (λ j. j < length left.rows.now) (λ j lt. omega (arith, h.rows)) (take left.count left.order) all
+  module _ (stay : ℕ) (fewer : stay ≤ length (take count masks)) (bits : X → Numbers) (test : Numbers → Bool) (kept : take stay front ≡ filter (λ m. test (bits m)) (take count masks)) where
+    pub passing : map bits (take stay (front ++ drop count masks)) ≡ filter test (map bits (take count masks))
+    passing =
+        ap (map bits) (take-append-le stay front (drop count masks) (omega (arith, length_permutation (take count masks) front moved)) ∙ kept)
+        ∙ map_filter bits test (take count masks)
 
-  module _ (stay : ℕ) (fewer : stay ≤ length (take left.count left.order)) where
-    fits_after : Fits (sifted left numbers stay)
-    fits_after = record {
-      rows = h.rows;
-      most = h.most;
-      inside = omega (arith, h.inside, h.most, length-take-le left.count left.order);
-      below = All-permutation (λ j. j < left.numbered) (take left.numbered left.order) (take left.numbered (numbers ++ drop left.count left.order)) (moved_to left.numbered h.inside) h.below;
-      long = h.long;
-      kept = h.kept;
-    }
+module _ {M K : Type 0} (bits : M → Numbers) (mem : K → Numbers) (before after : Left M K) (h : Fits before) (front : List M) (moved : IsPermutation (take before.count before.masks.now) front)
+    (masks : after.masks.now ≡ front ++ drop before.count before.masks.now) (behind : after.behind ≡ before.behind) (counts : after.counts ≡ before.counts) (fewer : after.count ≤ length (take before.count before.masks.now)) where
+  long : length after.masks.now ≡ length before.masks.now
+  long = ap length masks ∙ as_many before.masks.now before.count h.inside front moved
 
-    first_after : take stay (numbers ++ drop left.count left.order) ≡ take stay numbers
-    first_after = take-append-le stay numbers (drop left.count left.order) (omega (arith, length_permutation (take left.count left.order) numbers moved))
+  pub fits_after : Fits after
+  fits_after = record {
+    most = omega (arith, long, h.most);
+    inside = omega (arith, long, h.inside, length-take-le before.count before.masks.now h.inside);
+    long = ap length counts ∙ h.long;
+    kept = subst (λ n. All (λ c. c ≤ n) after.counts) (sym long) (subst (All (λ c. c ≤ length before.masks.now)) (sym counts) h.kept);
+  }
 
-    pub below_after : All (λ j. j < length left.rows.now) (take stay (numbers ++ drop left.count left.order))
-    below_after =
-        subst (All (λ j. j < length left.rows.now)) (sym first_after)
-        (All-take (λ j. j < length left.rows.now) stay numbers (All-permutation (λ j. j < length left.rows.now) (take left.count left.order) numbers moved below_before))
+  pub sifted_after : (test : Numbers → Bool) → take after.count front ≡ filter (λ m. test (bits m)) (take before.count before.masks.now) → Sifted bits mem test before after
+  unfolding standing
+  sifted_after test kept = record {
+    fits = fits_after;
+    counts = counts;
+    fewer = omega (arith, length-take-le before.count before.masks.now h.inside);
+    others = λ c le.
+        subst (λ l. Alike any_row (map (meant mem) before.behind.now ++ map bits (take c before.masks.now)) (map (meant mem) l ++ map bits (take c after.masks.now))) (ap (λ b. b.now) (sym behind))
+        (alike_append (alike_itself (map (meant mem) before.behind.now))
+        (subst (λ l. Alike any_row (map bits (take c before.masks.now)) (map bits (take c l))) (sym masks)
+        (alike_moved (IsPermutation-map bits _ _ (moved_to before.masks.now before.count h.inside front moved c le)))));
+    left =
+        let p : map bits (take after.count after.masks.now) ≡ filter test (map bits (take before.count before.masks.now)) =
+        ap (λ l. map bits (take after.count l)) masks ∙ passing before.masks.now before.count h.inside front moved after.count fewer bits test kept in
+        subst (λ l. Alike test (map (meant mem) before.behind.now ++ map bits (take before.count before.masks.now)) (map (meant mem) l ++ map bits (take after.count after.masks.now))) (ap (λ b. b.now) (sym behind))
+        (alike_append (alike_itself (map (meant mem) before.behind.now))
+        (subst (Alike test (map bits (take before.count before.masks.now))) (sym p) (alike_filter (map bits (take before.count before.masks.now)))));
+  }
 
-    module _ (mem : X → Numbers) (test : Numbers → Bool) (front : take stay numbers ≡ filter (λ j. test (row_of mem left.rows.now j)) (take left.count left.order)) where
-      passing : map (row_of mem left.rows.now) (take stay (numbers ++ drop left.count left.order)) ≡ filter test (map (row_of mem left.rows.now) (take left.count left.order))
-      passing = ap (map (row_of mem left.rows.now)) (first_after ∙ front) ∙ map_filter (row_of mem left.rows.now) test (take left.count left.order)
+-- some row stays exactly where some row passes
+pub any_filter : {X : Type 0} (p : X → Bool) (xs : List X) (n : ℕ) → n ≡ length (filter p xs) → nat_lt 0 n ≡ list_any p xs
+any_filter p xs n e = ap (nat_lt 0) e ∙ go p xs where
+  go : {X : Type 0} (p : X → Bool) (xs : List X) → nat_lt 0 (length (filter p xs)) ≡ list_any p xs
+  go p [] = refl
+  go p (x ∷ xs) = step (go p xs) (p x) where
+    step : nat_lt 0 (length (filter p xs)) ≡ list_any p xs → (b : Bool) → nat_lt 0 (length (cond b (x ∷ filter p xs) (filter p xs))) ≡ (b || list_any p xs)
+    step i true = lt-ltb 0 (suc (length (filter p xs))) (omega arith)
+    step i false = i
 
-      pub sifted_after : Sifted mem test left (sifted left numbers stay)
-      unfolding standing
-      sifted_after = record {
-        fits = fits_after;
-        counts = refl;
-        fewer = omega (arith, h.inside, h.most, length-take-le left.count left.order);
-        others = λ c le. alike_append (alike_itself (map (meant mem) (drop left.numbered left.rows.now))) (alike_moved (IsPermutation-map (row_of mem left.rows.now) _ _ (moved_to c le)));
-        left =
-            alike_append (alike_itself (map (meant mem) (drop left.numbered left.rows.now)))
-            (subst (Alike test (map (row_of mem left.rows.now) (take left.count left.order))) (sym passing) (alike_filter (map (row_of mem left.rows.now) (take left.count left.order))));
-      }
+pub or_true : (a b : Bool) → b ≡ true → (a || b) ≡ true
+or_true true b e = refl
+or_true false b e = e
 
-      pub tallied_after : filter test (map (meant mem) (drop left.numbered left.rows.now)) ++ map (row_of mem left.rows.now) (take stay (numbers ++ drop left.count left.order)) ≡ filter test (standing mem left left.count)
-      unfolding standing
-      tallied_after =
-          ap (λ l. filter test (map (meant mem) (drop left.numbered left.rows.now)) ++ l) passing
-          ∙ sym (filter-append test (map (meant mem) (drop left.numbered left.rows.now)) (map (row_of mem left.rows.now) (take left.count left.order)))
+pub or_false : (a b : Bool) → b ≡ false → (a || b) ≡ a
+or_false true b e = refl
+or_false false b e = e

@@ -1,72 +1,57 @@
--- Tallies of rows, and the rows that are left.
-use Rattle.std.proofs.Common.{◌≡◌, ℕ, ◌+◌, ◌<◌, ◌≤◌, Bool, true, false, cond, not, List, [], ◌∷◌, ◌++◌, map, length, get_or, take, replicate, filter, sym, refl, ap, ◌∙◌, ⊎_elim, arith}
-use Rattle.std.proofs.lemmas.List.Elements.{filter-append, filter_more}
+-- Tallies of rows.
+use Rattle.std.proofs.Common.{◌≡◌, ℕ, zero, suc, ◌+◌, ◌<◌, ◌≤◌, Bool, true, false, cond, not, List, [], ◌∷◌, map, length, get_or, take, drop, filter, add-one, refl, ap, ◌∙◌, sym, arith}
+use Rattle.std.proofs.lemmas.List.{length-map, take_all, drop_all}
 use Rattle.std.proofs.lemmas.List.Filters.{length-filter_both}
-use Rattle.std.proofs.lemmas.List.{append-nil, length-map, length-append, length_push, length-replicate, get_or-replicate, get_or_past}
-use Rattle.std.proofs.lemmas.Bool.{cases_lt, cond-true, cond-false}
-use Rattle.sets.specs.Sets.{Numbers, nothing, one}
-use Rattle.tables.specs.Memory.{meant}
-use Rattle.tables.specs.declared.row.Row.{Row}
-use Rattle.duality.specs.Shares.{Tallied, having}
-use Rattle.duality.specs.declared.tally.Tally.{Tally}
-use Rattle.duality.proofs.RowFacts.{row_is}
+use Rattle.sets.specs.Sets.{Numbers, one}
+use Rattle.duality.specs.Shares.{having}
 
 kept_few : {X : Type 0} (p : X → Bool) (xs : List X) → length (filter p xs) ≤ length xs
 kept_few p xs = omega (arith, length-filter_both p (λ x. not (p x)) (λ _. refl) xs)
 
--- ---- one row more
-
-having_none : (k : ℕ) → having [] k ≡ 0
+pub having_none : (k : ℕ) → having [] k ≡ 0
 unfolding having
 having_none k = refl
 
-having_few : (rows : List Numbers) (k : ℕ) → having rows k ≤ length rows
+pub having_few : (rows : List Numbers) (k : ℕ) → having rows k ≤ length rows
 unfolding having
 having_few rows k = kept_few (λ r. r k) rows
+
+pub having_more : (r : Numbers) (rows : List Numbers) (k : ℕ) → having (r ∷ rows) k ≡ one (r k) + having rows k
+unfolding having
+having_more r rows k = go (r k) where
+  go : (b : Bool) → length (cond b (r ∷ filter (λ r. r k) rows) (filter (λ r. r k) rows)) ≡ one b + length (filter (λ r. r k) rows)
+  go true = omega arith
+  go false = omega arith
 
 pub one_most : (b : Bool) → one b ≤ 1
 one_most true = omega arith
 one_most false = omega arith
 
-kept_one : {X : Type 0} (b : Bool) (x : X) → length (cond b (x ∷ []) []) ≡ one b
-kept_one true x = refl
-kept_one false x = refl
+-- ---- rows by their masks
+module _ {X : Type 0} (bits : X → Numbers) (k : ℕ) where
+  having_step : (x y : X) (xs : List X) → x ≡ y → having (map bits (y ∷ xs)) k ≡ one (bits x k) + having (map bits xs) k
+  having_step x y xs e = having_more (bits y) (map bits xs) k ∙ ap (λ z. one (bits z k) + having (map bits xs) k) (sym e)
 
-having_push : (rows : List Numbers) (s : Numbers) (k : ℕ) → having (rows ++ s ∷ []) k ≡ having rows k + one (s k)
-unfolding having
-having_push rows s k =
-    let p : Numbers → Bool = λ r. r k in
-    ap length (filter-append p rows (s ∷ [])) ∙ length-append (filter p rows) (filter p (s ∷ [])) ∙ ap (λ n. length (filter p rows) + n) (kept_one (s k) s)
+  -- the first four
+  pub having_four : (xs : List X) (n : ℕ) (a b c d : X) → 4 ≤ length xs → length xs ≤ n + 4 → a ≡ get_or xs 0 a → b ≡ get_or xs 1 b → c ≡ get_or xs 2 c → d ≡ get_or xs 3 d
+      → having (map bits xs) k ≡ one (bits a k) + one (bits b k) + one (bits c k) + one (bits d k) + having (map bits (take n (drop 4 xs))) k
+  having_four [] n a b c d h l p q r s = absurd (omega arith)
+  having_four (u ∷ []) n a b c d h l p q r s = absurd (omega arith)
+  having_four (u ∷ v ∷ []) n a b c d h l p q r s = absurd (omega arith)
+  having_four (u ∷ v ∷ w ∷ []) n a b c d h l p q r s = absurd (omega arith)
+  having_four (u ∷ v ∷ w ∷ x ∷ xs) n a b c d h l p q r s =
+      let all : take n xs ≡ xs = take_all n xs (omega arith) in
+      let e = ap (λ ys. having (map bits ys) k) all in
+      omega (arith, having_step a u (v ∷ w ∷ x ∷ xs) p, having_step b v (w ∷ x ∷ xs) q, having_step c w (x ∷ xs) r, having_step d x xs s, e)
 
-zeros : (n k : ℕ) → ◌≡◌ {A = ℕ} (get_or (replicate n 0) k 0) 0
-zeros n k =
-    ⊎_elim (λ h. get_or-replicate n k 0 0 h) (λ h. get_or_past (replicate n 0) k 0 (simp length-replicate h)) (cases_lt k n)
+  -- one after another
+  having_at : (xs : List X) (i : ℕ) (x : X) → i < length xs → x ≡ get_or xs i x → having (drop i (map bits xs)) k ≡ one (bits x k) + having (drop (suc i) (map bits xs)) k
+  having_at [] i x h e = absurd (omega arith)
+  having_at (y ∷ xs) zero x h e = having_step x y xs e
+  having_at (y ∷ xs) (suc i) x h e = having_at xs i x (omega arith) e
 
-pub tallied_none : (n : ℕ) → Tallied [] (record { rows = 0; having = replicate n 0 })
-tallied_none n = record { count = refl; each = λ k. zeros n k ∙ sym (having_none k) }
+  pub having_next : (xs : List X) (i : ℕ) (x : X) → i < length xs → x ≡ get_or xs i x → having (drop i (map bits xs)) k ≡ one (bits x k) + having (drop (i + 1) (map bits xs)) k
+  having_next xs i x h e = rw add-one (having_at xs i x h e)
 
-pub tallied_few : {rows : List Numbers} {t : Tally} → Tallied rows t → (k : ℕ) → get_or t.having k 0 ≤ t.rows
-tallied_few {rows} {t} so_far k = omega (arith, so_far.each k, having_few rows k)
-
-pub tallied_push : {rows : List Numbers} {t : Tally} → Tallied rows t → (s : Numbers) (u : Tally) → u.rows ≡ t.rows + 1 → ((k : ℕ) → get_or u.having k 0 ≡ get_or t.having k 0 + one (s k)) → Tallied (rows ++ s ∷ []) u
-tallied_push {rows} {t} so_far s u more each = record {
-  count = omega (arith, length_push rows s);
-  each = λ k. omega (arith, each k, so_far.each k, having_push rows s k);
-}
-
--- ---- the rows that are left
-
--- the row x is read at place i, and y is its set
-module _ {X : Type 0} (p : Numbers → Bool) (mem : X → Numbers) (xs : List (Row X)) (i : ℕ) (x : Row X) (y : X) (lt : i < length xs) (is : x ≡ get_or xs i x) (its : y ≡ x.set) where
-  passed : filter p (take (i + 1) (map (meant mem) xs)) ≡ filter p (take i (map (meant mem) xs)) ++ cond (p (mem y)) (mem y ∷ []) []
-  passed =
-      filter_more p (map (meant mem) xs) i nothing (simp length-map lt)
-      ∙ ap (λ v. filter p (take i (map (meant mem) xs)) ++ cond (p v) (v ∷ []) []) (row_is mem xs i x y lt is its)
-
-  pub passed_more : p (mem y) ≡ true → (z : X) → z ≡ x.set → filter p (take (i + 1) (map (meant mem) xs)) ≡ filter p (take i (map (meant mem) xs)) ++ mem z ∷ []
-  passed_more e z same =
-      passed ∙ ap (λ l. filter p (take i (map (meant mem) xs)) ++ l) (cond-true (p (mem y)) (mem y ∷ []) [] e ∙ ap (λ u. mem u ∷ []) (its ∙ sym same))
-
-  pub passed_same : p (mem y) ≡ false → filter p (take (i + 1) (map (meant mem) xs)) ≡ filter p (take i (map (meant mem) xs))
-  passed_same e =
-      passed ∙ ap (λ l. filter p (take i (map (meant mem) xs)) ++ l) (cond-false (p (mem y)) (mem y ∷ []) [] e) ∙ append-nil (filter p (take i (map (meant mem) xs)))
+  pub having_rest : (xs : List X) (i : ℕ) → length xs ≤ i → having (drop i (map bits xs)) k ≡ 0
+  having_rest xs i h = ap (λ ys. having ys k) (drop_all i (map bits xs) (simp length-map h)) ∙ having_none k

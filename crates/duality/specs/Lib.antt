@@ -5,3 +5,4 @@ pub mod Remaining
 pub mod Halves
 pub mod Searches
 pub mod RowsOf
+pub mod Blocks

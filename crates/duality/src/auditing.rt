@@ -9,6 +9,7 @@ ghost use Rattle.duality.specs.Pairs.{Pairs, checked};
 ghost use Rattle.duality.specs.Verdicts.{Audited};
 ghost use Rattle.duality.specs.RowsOf.{IsRow};
 
+use crate::block::{Block, ROOM};
 use crate::fault::PairFault;
 use crate::rows::some_apart;
 use crate::search::Search;
@@ -36,14 +37,28 @@ pub fn check_pair<K: SetKind>(paths: &Table<K>, cuts: &Table<K>) -> Result<usize
     Ok(n)
 }
 
-// The first path with which some cut has no common item.
+// The first path with which some cut has no common item: a few paths are held against the cuts one by one, it may be over then, and the
+// others against blocks of them.
 pub(crate) fn first_apart<'p, K: SetKind>(
     paths: &'p [Row<K>],
     cuts: &[Row<K>],
 ) -> Option<&'p Row<K>>
     ensures { MatchOption result (EachRow (map (meant K.mem) paths.now) (λ p. Fails (map (meant K.mem) cuts.now) p → ⊥)) (λ path. IsRow (meant K.mem) paths.now path.now × Fails (map (meant K.mem) cuts.now) (meant K.mem path.now)) }
 {
-    paths.iter().find(|path| some_apart(path, cuts))
+    let (few, others) = paths.split_at(paths.len().min(4));
+    if let Some(path) = few.iter().find(|path| some_apart(path, cuts)) {
+        return Some(path);
+    }
+    let mut first = others.len();
+    let mut rest = cuts;
+    'holding: while !rest.is_empty() {
+        let (cuts, behind) = rest.split_at(rest.len().min(ROOM));
+        first = Block::of(cuts)
+            .first_apart(&others[..first])
+            .unwrap_or(first);
+        rest = behind;
+    }
+    others.get(first)
 }
 
 // Whether both tables describe the same system; else a state that both cover, or one that neither covers.

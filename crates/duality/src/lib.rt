@@ -2,10 +2,11 @@
 #![tactic(auto)]
 
 pub mod auditing;
+pub mod block;
 pub mod choice;
 pub mod fault;
 pub mod left;
-pub mod numbers;
+pub mod masks;
 pub mod rows;
 pub mod search;
 pub mod splits;

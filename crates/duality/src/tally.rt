@@ -1,72 +1,88 @@
-// How many of some rows there are, and how many of them have each item.
-ghost use Rattle.std.specs.Prelude.{◌≡◌, ℕ, ◌+◌, ◌^◌, ◌<◌, ◌≤◌, Bool, List, [], ◌∷◌, ◌++◌, map, filter, length, slice_index};
-ghost use Rattle.std.specs.List.{All};
-ghost use Rattle.std.specs.Fn.{FnReturnsAt};
-ghost use Rattle.sets.specs.Sets.{Numbers};
-ghost use Rattle.tables.specs.Memory.{meant};
-ghost use Rattle.tables.specs.declared.row.Row.{Row};
-ghost use Rattle.duality.specs.Shares.{Tallied};
-ghost use Rattle.duality.specs.Remaining.{row_of, Tests};
+// How many of some rows have each item, counted for all items at once in planes: plane b has the items in whose count bit b is set.
+ghost use Rattle.std.specs.Prelude.{◌≡◌, ℕ, ◌+◌, ◌*◌, ◌^◌, ◌<◌, ◌≤◌, map, length};
+ghost use Rattle.sets.specs.Sets.{one};
+ghost use Rattle.duality.specs.Shares.{Tallied, Most, counted};
 
-use sets::SetKind;
-use tables::Row;
+use sets::Mask;
 
-#[derive(Clone, Copy)]
-pub struct Tally {
-    pub(crate) rows: usize,
-    having: [usize; 256],
+// Counts below 8,192 have 13 bits; a table has at most 4,096 rows.
+pub(crate) const PLANES: usize = 13;
+
+// The planes of the rows with these masks.
+pub(crate) fn tally<M: Mask>(planes: &mut [M], masks: &[M])
+    requires long { length planes.old ≡ 13 }
+    requires few { length masks.now < 2 ^ 13 }
+    ensures long { length planes.new ≡ 13 }
+    ensures tallied { Tallied M.bits (map M.bits masks.now) planes.new }
+{
+    for plane in 0..PLANES {
+        planes[plane] = M::none();
+    }
+    let mut rest = masks;
+    'fours: while let [a, b, c, d, others @ ..] = rest {
+        add_four(planes, *a, *b, *c, *d);
+        rest = others;
+    }
+    for mask in rest {
+        carry(planes, 0, *mask);
+    }
 }
 
-impl Tally {
-    fn new() -> Tally
-        ensures { Tallied [] result }
-    {
-        Tally {
-            rows: 0,
-            having: [0; 256],
+// Four rows more.
+fn add_four<M: Mask>(planes: &mut [M], a: M, b: M, c: M, d: M)
+    requires { length planes.old ≡ 13 }
+    ensures long { length planes.new ≡ 13 }
+    ensures each { (k : ℕ) → counted M.bits planes.old k + (one (M.bits a k) + one (M.bits b k) + one (M.bits c k) + one (M.bits d k)) < 2 ^ 13 → counted M.bits planes.new k ≡ counted M.bits planes.old k + (one (M.bits a k) + one (M.bits b k) + one (M.bits c k) + one (M.bits d k)) }
+{
+    let (ones, first_two) = sum(planes[0], a, b);
+    let (ones, second_two) = sum(ones, c, d);
+    let (twos, four) = sum(planes[1], first_two, second_two);
+    planes[0] = ones;
+    planes[1] = twos;
+    carry(planes, 2, four);
+}
+
+// The sum of three bits for each number: its first bit, and its second.
+fn sum<M: Mask>(a: M, b: M, c: M) -> (M, M)
+    ensures { (k : ℕ) → one (M.bits result.0 k) + 2 * one (M.bits result.1 k) ≡ one (M.bits a k) + one (M.bits b k) + one (M.bits c k) }
+{
+    let either = a.xor(b);
+    (either.xor(c), a.and(b).or(either.and(c)))
+}
+
+// As many more as plane `from` stands for, of each item of the mask.
+fn carry<M: Mask>(planes: &mut [M], from: usize, mask: M)
+    requires long { length planes.old ≡ 13 }
+    requires from { from ≤ 13 }
+    ensures long { length planes.new ≡ 13 }
+    ensures each { (k : ℕ) → counted M.bits planes.old k + 2 ^ from * one (M.bits mask k) < 2 ^ 13 → counted M.bits planes.new k ≡ counted M.bits planes.old k + 2 ^ from * one (M.bits mask k) }
+{
+    let mut carried = mask;
+    for at in from..PLANES {
+        let plane = planes[at];
+        planes[at] = plane.xor(carried);
+        carried = plane.and(carried);
+        if carried.is_none() {
+            return;
         }
     }
+}
 
-    // The tally of the rows that `is_left` takes.
-    pub(crate) fn of<K: SetKind, F: Fn(&Row<K>) -> bool>(rows: &[Row<K>], is_left: &F) -> Tally
-        requires { F.IsAlwaysCallable is_left.now }
-        ensures few { (some : List Numbers) × Tallied some result × (length some ≤ length rows.now) }
-        ensures left { (test : Numbers → Bool) → Tests K.mem (FnReturnsAt F.Fn is_left.now) test → Tallied (filter test (map (meant K.mem) rows.now)) result }
-    {
-        let mut tally = Tally::new();
-        for row in rows {
-            if is_left(row) {
-                tally.add(row.set());
-            }
-        }
-        tally
-    }
-
-    // And of the rows with these numbers.
-    pub(crate) fn add_numbered<K: SetKind>(&mut self, rows: &[Row<K>], numbers: &[u16])
-        requires numbers { All (λ j. j < length rows.now) numbers.now }
-        requires few { (some : List Numbers) × Tallied some self.old × (length some + length numbers.now < 2 ^ 64) }
-        ensures { (some : List Numbers) → Tallied some self.old → Tallied (some ++ map (row_of K.mem rows.now) numbers.now) self.new }
-    {
-        for &number in numbers {
-            self.add(rows[number as usize].set());
+// The largest count of the items in question, and those that have it.
+pub(crate) fn most<M: Mask>(planes: &[M], items: M) -> (usize, M)
+    requires { length planes.now ≡ 13 }
+    ensures most { Most (counted M.bits planes.now) (M.bits items) result.0 (M.bits result.1) }
+    ensures few { result.0 < 2 ^ 13 }
+{
+    let mut most = 0;
+    let mut leading = items;
+    for above in 0..PLANES {
+        let more = leading.and(planes[PLANES - 1 - above]);
+        most *= 2;
+        if !more.is_none() {
+            most += 1;
+            leading = more;
         }
     }
-
-    // How many of them have the item.
-    pub(crate) fn having(&self, item: usize) -> usize
-        ensures { result ≡ slice_index self.now.having item }
-    {
-        self.having.get(item).copied().unwrap_or(0)
-    }
-
-    // One row more.
-    fn add<K: SetKind>(&mut self, set: &K)
-        requires few { self.old.rows + 1 < 2 ^ 64 }
-        requires each { (k : ℕ) → slice_index self.old.having k ≤ self.old.rows }
-        ensures { (rows : List Numbers) → Tallied rows self.old → Tallied (rows ++ K.mem set.now ∷ []) self.new }
-    {
-        set.add_to(&mut self.having);
-        self.rows += 1;
-    }
+    (most, leading)
 }

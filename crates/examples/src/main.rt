@@ -1,4 +1,4 @@
-// The worked examples: sheet texts with all that is printed for each, then tables of small capacity and rows of the list kind.
+// Sheet texts with all that is printed for each; then short output memories, STOP lines, tables of small capacity and rows of the list kind.
 #![tactic(auto)]
 
 use completion::complete;

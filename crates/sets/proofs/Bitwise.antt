@@ -5,6 +5,7 @@ use lib.Bits.{bit_and, bit_or, bit_xor, and_shr, or_shr, xor_shr, and_mod, or_mo
 use lib.Count.{ones, count_trailing_zeros, under, ones_cat}
 use Rattle.sets.specs.Sets.{one, count}
 use Rattle.sets.specs.Words.{bit}
+use Rattle.sets.specs.Masks.{unlike}
 use Rattle.std.proofs.lemmas.Bool.{cases_order, cases_eq, cases_lt, lt-leb, le-leb, eq-eqb, ne_eqb, eqb-true}
 use Rattle.std.proofs.lemmas.Nat.{shl-shr, shr-shr, pow-add, pow_below, mod_below, mod-pow-add, pow_pos, div-add-mod', shr_below}
 
@@ -26,10 +27,6 @@ pub bit_of_or : (a b k : ℕ) → bit (bit_or a b) k ≡ (bit a k || bit b k)
 bit_of_or a b k =
     ap (λ (x : ℕ). eqb (x % 2) 1) (or_shr a b k) ∙ ap (λ (x : ℕ). eqb x 1) (or_mod (a / 2 ^ k) (b / 2 ^ k) 1)
     ∙ on_digits (λ x y. eqb (bit_or x y) 1 ≡ (eqb x 1 || eqb y 1)) refl refl refl refl (a / 2 ^ k % 2) (b / 2 ^ k % 2) (mod_below (a / 2 ^ k) 2 (omega arith)) (mod_below (b / 2 ^ k) 2 (omega arith))
-
-abbrev pub unlike : Bool → Bool → Bool
-unlike true b = not b
-unlike false b = b
 
 pub bit_of_xor : (a b k : ℕ) → bit (bit_xor a b) k ≡ unlike (bit a k) (bit b k)
 bit_of_xor a b k =

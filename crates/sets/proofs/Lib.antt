@@ -4,5 +4,7 @@ pub mod WordLaws
 pub mod Lists
 pub mod Remaining
 pub mod MarkLaws
+pub mod MaskLaws
+pub mod ColumnLaws
 pub mod Walk
 pub mod TwoLists

@@ -1,15 +1,15 @@
 -- What each method of the list kind owes, over a plain rising list.
-use Rattle.std.proofs.Common.{◌≡◌, ℕ, zero, suc, ◌+◌, ◌<◌, ◌≤◌, false, not, ◌&&◌, ◌||◌, ◌==◌, eqb, ◌≢◌, T, List, [], ◌∷◌, ◌++◌, length, get_or, set, take, drop, ◌-◌, Option, None, Some, MatchOption, ◌⊎◌, Result, Ok, Err, MatchResult, Decides, sym, subst, inl, inr, ap, ap₂, ◌∙◌, add-one, refl, arith, eqb→eq, T_not}
-use Rattle.std.specs.List.{AllWithin, list_any, list_all, HoldsAt, insert, remove}
+use Rattle.std.proofs.Common.{◌≡◌, ℕ, zero, suc, ◌+◌, ◌<◌, ◌≤◌, false, not, ◌&&◌, ◌||◌, ◌==◌, eqb, ◌≢◌, T, List, [], ◌∷◌, ◌++◌, length, get_or, set, take, drop, ◌-◌, Option, None, Some, MatchOption, Result, Ok, Err, MatchResult, Decides, sym, subst, inl, inr, ap, ap₂, ◌∙◌, add-one, refl, arith, eqb→eq, nat_le, T_not}
+use Rattle.std.specs.List.{AllWithin, list_any, list_all, find, insert, remove}
 use Rattle.std.specs.List.Sorted.{IsBinarySearchResult}
 use Rattle.std.specs.Ordering.{nat_cmp}
-use Rattle.std.specs.Option.{IsSomeAnd, option_eq}
-use Rattle.std.specs.Result.{is_ok, result_ok, OkIff}
+use Rattle.std.specs.Option.{option_eq}
+use Rattle.std.specs.Result.{is_ok, OkIff}
 use borrow.Rule.Slice.PartMut.{put_mid, mid_of, post_of}
 use Rattle.std.proofs.lemmas.List.{append_assoc, length-append, length-set, length-drop, length-take-le, length_push, take_at, take-take, take-set-le, take_more_set, drop_at, drop-append-le, drop-drop, drop-take}
 use Rattle.std.proofs.lemmas.Slice.{take-put_mid}
 use Rattle.std.proofs.Math.Dec.{eqb_refl, not_T}
-use Rattle.std.proofs.lemmas.Bool.{cases_lt, cases_order, cases_eq, eq-eqb, ne_eqb, true≢false}
+use Rattle.std.proofs.lemmas.Bool.{cond_both, leb-true, leb-false, cases_lt, cases_order, cases_eq, eq-eqb, ne_eqb, true≢false}
 use Rattle.std.proofs.lemmas.Result.{MatchResult-at_ok, MatchResult-at_err}
 use Rattle.std.proofs.lemmas.List.Sorted.{searched}
 use Rattle.std.proofs.lemmas.Bool.Decides.{Decides-like, Decides-at, nat_tests}
@@ -48,69 +48,32 @@ decides_none xs t =
 
 -- ---- the first element at or above k
 
-rises : (lo : ℕ) (xs : List ℕ) → T (rising lo xs) → (i j : ℕ) → i < j → j < length xs → get_or xs i 0 < get_or xs j 0
-rises lo [] t i j h l = absurd (omega arith)
-rises lo (x ∷ xs) t i zero h l = absurd (omega arith)
-rises lo (x ∷ xs) t zero (suc j) h l =
-    (listed_bounds (suc x) xs (get_or xs j 0) (rising_parts lo x xs t).2 (listed_at xs j 0 (omega arith))).0
-rises lo (x ∷ xs) t (suc i) (suc j) h l = rises (suc x) xs (rising_parts lo x xs t).2 i j (omega arith) (omega arith)
-
--- i is the place of the first element from k on
-pub record FirstFrom (k : ℕ) (xs : List ℕ) (i : ℕ) : Type 0 where
-  pub fits : i ≤ length xs
-  pub below : (j : ℕ) → j < i → get_or xs j 0 < k
-  pub above : (j : ℕ) → i ≤ j → j < length xs → k ≤ get_or xs j 0
-
--- what a binary search for k answers, found or not
-pub first_found : (xs zs : List ℕ) (k i : ℕ) (r : Result ℕ ℕ) → T (rising 0 xs) → zs ≡ xs → IsBinarySearchResult (λ y. nat_cmp y k) zs r → (r ≡ Ok i) ⊎ (r ≡ Err i) → FirstFrom k xs i
-first_found xs zs k i r t e s is =
-    let p = searched xs k r (subst (λ l. IsBinarySearchResult (λ y. nat_cmp y k) l r) e s) (λ a b h l. rising_places 0 xs t a b 0 h l) in
-    elim is [
-      | inl o ↦
-          let q = MatchResult-at_ok _ _ i o p in
-          record {
-            fits = omega (arith, q.0);
-            below = λ j h. omega (arith, rises 0 xs t j i h q.0, q.1);
-            above = λ j h l. omega (arith, rising_places 0 xs t i j 0 h l, q.1);
-          }
-      | inr o ↦
-          let q = MatchResult-at_err _ _ i o p in
-          record { fits = q.0; below = q.1; above = λ j h l. omega (arith, q.2 j h l) }
-    ]
-
-none_from : (k : ℕ) (xs : List ℕ) (i : ℕ) → FirstFrom k xs i → length xs ≤ i → NoneFrom (listed xs) k
-none_from k xs i f h j a m = let q = listed_place xs j 0 m in omega (arith, f.below q.0 (omega (arith, q.1)), q.2)
-
-lowest_from : (k : ℕ) (xs : List ℕ) (i : ℕ) → T (rising 0 xs) → FirstFrom k xs i → i < length xs → Lowest (listed xs) k (get_or xs i 0)
-lowest_from k xs i t f h = record {
-  member = listed_at xs i 0 h;
-  above = f.above i (omega arith) h;
-  first = λ j a b m.
-      let q = listed_place xs j 0 m in
-      elim (cases_lt q.0 i) [
-        | inl c ↦ omega (arith, f.below q.0 c, q.2)
-        | inr c ↦ omega (arith, rising_places 0 xs t i q.0 0 c q.1, q.2)
-      ];
+past_head : (x k : ℕ) (xs : List ℕ) → x < k → (o : Option ℕ) → MatchOption o (NoneFrom (listed xs) k) (Lowest (listed xs) k) → MatchOption o (NoneFrom (listed (x ∷ xs)) k) (Lowest (listed (x ∷ xs)) k)
+past_head x k xs h None n =
+    λ j a m. elim (or_T (j == x) (listed xs j) m) [ inl e ↦ let q : j ≡ x = eqb→eq j x e in omega arith | inr r ↦ n j a r ]
+past_head x k xs h (Some m) l = record {
+  member = T_or_right (m == x) (listed xs m) l.member;
+  above = l.above;
+  first = λ j a b t. elim (or_T (j == x) (listed xs j) t) [ inl e ↦ let q : j ≡ x = eqb→eq j x e in omega arith | inr r ↦ l.first j a b r ];
 }
 
--- what `get` at that place gives, read as a number
-pub lowest_read : {X : Type 0} (now : X → ℕ) (R : X → ℕ → Type 0) (k : ℕ) (xs zs : List ℕ) (i : ℕ) (g : Option X) (m : Option ℕ) → T (rising 0 xs) → zs ≡ xs → FirstFrom k xs i → MatchOption g (length zs ≤ i) (λ x. (i < length zs) × HoldsAt (λ y. now x ≡ y) zs i) → MatchOption g (m ≡ None) (λ x. IsSomeAnd m (R x)) → ((x : X) (r : ℕ) → R x r → r ≡ now x) → MatchOption m (NoneFrom (listed xs) k) (Lowest (listed xs) k)
-lowest_read now R k xs zs i None None t e f a b r = none_from k xs i f (omega (arith, ap length e))
-lowest_read now R k xs zs i None (Some y) t e f a b r = cc
-lowest_read now R k xs zs i (Some x) None t e f a b r = absurd b
-lowest_read now R k xs zs i (Some x) (Some y) t e f a b r =
-    subst (Lowest (listed xs) k) (ap (λ l. get_or l i 0) (sym e) ∙ sym (a.1 0) ∙ sym (r x y b)) (lowest_from k xs i t f (omega (arith, a.0, ap length e)))
+pub lowest_found : (lo k : ℕ) (xs : List ℕ) → T (rising lo xs) → MatchOption (find (λ x. nat_le k x) xs) (NoneFrom (listed xs) k) (Lowest (listed xs) k)
+lowest_found lo k [] t = λ j a m. m
+lowest_found lo k (x ∷ xs) t =
+    let p = rising_parts lo x xs t in
+    cond_both (nat_le k x) (Some x) (find (λ x. nat_le k x) xs) (λ o. MatchOption o (NoneFrom (listed (x ∷ xs)) k) (Lowest (listed (x ∷ xs)) k))
+    (λ e. record {
+      member = T_or_left (x == x) (listed xs x) (eqb_refl x);
+      above = leb-true k x e;
+      first = λ j a b m.
+          elim (or_T (j == x) (listed xs j) m) [
+            | inl q ↦ let same : j ≡ x = eqb→eq j x q in omega arith
+            | inr r ↦ omega (arith, listed_bounds (suc x) xs j p.2 r)
+          ];
+    })
+    (λ e. past_head x k xs (leb-false k x e) (find (λ x. nat_le k x) xs) (lowest_found (suc x) k xs p.2))
 
--- the number n that `u8::try_from` gave of k, or that it gave none
-pub number_of : {E : Type 0} (t : Result ℕ E) {k n : ℕ} → OkIff t (k < 256) k → Some n ≡ result_ok t → n ≡ k
-number_of (Ok x) o e = cc
-number_of (Err d) o e = cc
-
-pub none_high : {E : Type 0} (t : Result ℕ E) {k : ℕ} (xs : List ℕ) → T (rising 0 xs) → OkIff t (k < 256) k → false ≡ is_ok t → NoneFrom (listed xs) k
-none_high (Ok x) xs u o e j a m = absurd (true≢false (sym e))
-none_high (Err d) {k} xs u o e j a m = let q = listed_bounds 0 xs j u m in o (omega (arith, q.1))
-
--- so a member is its own first
+-- a member is its own first
 pub own_first : (s : Numbers) (k : ℕ) (o : Option ℕ) → MatchOption o (NoneFrom s k) (Lowest s k) → option_eq eqb o (Some k) ≡ s k
 own_first s k None n = sym (fails_false (s k) (n k (omega arith)))
 own_first s k (Some m) l =

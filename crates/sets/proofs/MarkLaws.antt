@@ -59,7 +59,7 @@ mark_taken ws k l h j =
 -- ---- against one word
 
 -- what is below 64 stands in the first word
-held_low : (ws : List ℕ) (k : ℕ) → k < 64 → held ws k ≡ word_set (get_or ws 0 0) k
+pub held_low : (ws : List ℕ) (k : ℕ) → k < 64 → held ws k ≡ word_set (get_or ws 0 0) k
 held_low ws k h =
     ap₂ (λ (i : ℕ) (j : ℕ). word_set (get_or ws i 0) j) (div-eq_of_lt h) (mod-eq_of_lt h)
 

@@ -8,3 +8,5 @@ pub mod Counts
 pub mod ListLaws
 pub mod WordBelow
 pub mod Members
+pub mod Masks
+pub mod Columns

@@ -1,10 +1,14 @@
 // What every set kind means and answers.
-ghost use Rattle.std.specs.Prelude.{min, ◌-◌, ◌≡◌, ℕ, ◌+◌, ◌^◌, ◌<◌, ◌≤◌, T, Decides, MatchOption, OnOk, OnErr, Some, codes, slice_index};
-ghost use Rattle.sets.specs.Sets.{Numbers, nothing, with, without, Within, Apart, Same, Below, one, count, Lowest, NoneFrom};
+ghost use Rattle.std.specs.Prelude.{◌≡◌, ℕ, ◌<◌, ◌≤◌, ◌&&◌, ◌==◌, cond, nat_lt, true, T, Decides, MatchOption, OnOk, OnErr, Some, codes};
+ghost use Rattle.sets.specs.Sets.{Numbers, nothing, with, without, Within, Apart, Same, Below, count, Lowest, NoneFrom};
 ghost use Rattle.sets.specs.Marks.{marked};
+ghost use Rattle.sets.specs.Masks.{low_marked};
+ghost use Rattle.sets.specs.Columns.{column, Joined};
 ghost use Rattle.sets.specs.Members.{members_from, members_left};
 
+use crate::columns::Columns;
 use crate::marks::Marks;
+use crate::mask::Mask;
 use crate::members::Members;
 use std::error::Error;
 use std::fmt;
@@ -106,15 +110,28 @@ pub trait SetKind: Drop {
         marks
     }
 
-    // One more for each member, as far as a count goes.
-    fn add_to(&self, counts: &mut [usize; 256])
-        ensures { (k : ℕ) → slice_index counts.new k ≡ min (slice_index counts.old k + one (mem self.now k)) (2 ^ 64 - 1) }
+    // Puts the place into the column of each member.
+    fn put_in(&self, columns: &mut Columns, place: usize)
+        ensures { (i j : ℕ) → column columns.new i j ≡ cond (mem self.now i && (nat_lt place 256 && j == place)) true (column columns.old i j) }
     {
         let mut from = 0;
-        'counting: while let Some(k) = self.next(from) {
-            counts[k] = counts[k].saturating_add(1);
+        'putting: while let Some(k) = self.next(from) {
+            columns.put(k, place);
             from = k + 1;
         }
+    }
+
+    // The places that stand in the column of some member.
+    fn join(&self, columns: &Columns) -> Marks
+        ensures { (j : ℕ) → Decides (low_marked result j) (Joined columns.now (mem self.now) j) }
+    {
+        let mut joined = Marks::none();
+        let mut from = 0;
+        'joining: while let Some(k) = self.next(from) {
+            joined = joined.or(columns.of(k));
+            from = k + 1;
+        }
+        joined
     }
 
     // The members, in rising order.

@@ -6,8 +6,10 @@ ghost use Rattle.sets.specs.Listing.{listed_bounds};
 ghost use Rattle.sets.specs.ListLaws.{held_list, held_none, held_less};
 ghost use Rattle.std.proofs.Common.{lit≤};
 
+use crate::columns::Columns;
 use crate::kind::{CannotHold, SetKind};
 use crate::marks::Marks;
+use crate::mask::Mask;
 
 // How many numbers a list has room for.
 const ROOM: usize = 16;
@@ -127,9 +129,10 @@ impl SetKind for ListSet {
     }
 
     fn next(&self, k: usize) -> Option<usize> {
-        let number = u8::try_from(k).ok()?;
-        let (Ok(at) | Err(at)) = self.as_slice().binary_search(&number);
-        self.as_slice().get(at).map(|x| usize::from(*x))
+        self.as_slice()
+            .iter()
+            .map(|x| usize::from(*x))
+            .find(|x| *x >= k)
     }
 
     fn all_marked(&self, marks: &Marks) -> bool {
@@ -148,10 +151,17 @@ impl SetKind for ListSet {
         marks
     }
 
-    fn add_to(&self, counts: &mut [usize; 256]) {
+    fn put_in(&self, columns: &mut Columns, place: usize) {
         for x in self.as_slice() {
-            let k = usize::from(*x);
-            counts[k] = counts[k].saturating_add(1);
+            columns.put(usize::from(*x), place);
         }
+    }
+
+    fn join(&self, columns: &Columns) -> Marks {
+        let mut joined = Marks::none();
+        for x in self.as_slice() {
+            joined = joined.or(columns.of(usize::from(*x)));
+        }
+        joined
     }
 }

@@ -10,7 +10,7 @@ use crate::marks::Marks;
 
 #[derive(Clone, Copy, Debug, PartialEq, Eq)]
 pub struct WordSet {
-    bits: u64,
+    pub(crate) bits: u64,
 }
 
 // The word whose one bit is k.
@@ -95,15 +95,6 @@ impl SetKind for WordSet {
     fn marks(&self) -> Marks {
         Marks {
             words: [self.bits, 0, 0, 0],
-        }
-    }
-
-    fn add_to(&self, counts: &mut [usize; 256]) {
-        let mut rest = self.bits;
-        'members: while rest != 0 {
-            let k = rest.trailing_zeros() as usize;
-            counts[k] = counts[k].saturating_add(1);
-            rest &= rest - 1;
         }
     }
 }

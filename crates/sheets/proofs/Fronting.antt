@@ -1,7 +1,7 @@
 -- The ITEM line in front of a text: whether it is there, and which.
-use Rattle.std.proofs.Common.{◌≡◌, ℕ, zero, suc, ◌+◌, ◌%◌, ◌<◌, [], ◌∷◌, ◌++◌, length, drop, codes, sym, refl, ap, ◌∙◌, subst, ◌⊎◌, inl, inr, Bor, arith}
+use Rattle.std.proofs.Common.{◌≡◌, ℕ, zero, suc, ◌+◌, ◌%◌, ◌<◌, [], ◌∷◌, ◌++◌, length, get_or, drop, codes, length-append, sym, refl, ap, ◌∙◌, subst, ◌⊎◌, inl, inr, Bor, arith}
 use Rattle.std.proofs.lemmas.Bool.Decides.{nat_tests}
-use Rattle.std.proofs.lemmas.List.{append_assoc}
+use Rattle.std.proofs.lemmas.List.{append_assoc, get_or_at}
 use Rattle.sheets.specs.Bytes.{Bytes, Feedless, Label, item_line}
 use Rattle.sheets.specs.Runs.{Each, Halts}
 use Rattle.sheets.specs.Lines.{Ended, Says}
@@ -53,6 +53,13 @@ item_plain n l small lab = subst Feedless (sym (item_bytes n l small))
 
 pub length_item : (n : ℕ) (l : Bytes) → n < 1000 → length (item_line n l) ≡ 9 + length l
 length_item n l small = let e = ap length (item_bytes n l small) in omega arith
+
+-- what has no line feed ends no line
+pub feed_apart : (rest l after : Bytes) → Feedless rest → rest ≡ l ++ (10 ∷ after) → ⊥
+feed_apart rest l after plain e =
+    let long = length-append l (10 ∷ after) in
+    let le = ap length e in
+    plain (length l) (omega arith) (ap (λ z. get_or z (length l) 0) e ∙ get_or_at l 10 after 0 (length l) refl)
 
 feed_halts : (x : Bytes) → Halts NoFeed (10 ∷ x)
 feed_halts x = λ h f. f refl

@@ -1,7 +1,7 @@
 -- The second call has one reply, and leaves one list of rows of each table.
 use Rattle.std.proofs.Common.{◌≡◌, ◌≢◌, ℕ, zero, suc, ◌+◌, ◌<◌, cond, eqb, List, [], ◌∷◌, ◌++◌, length, map, get_or, codes, Ok, Err, Result, append_assoc, length-append, sym, refl, ap, ap₂, ◌∙◌, subst, arith}
 use Rattle.std.proofs.lemmas.Bool.Decides.{nat_tests}
-use Rattle.std.proofs.lemmas.List.{get_or_at, append_cancel_left}
+use Rattle.std.proofs.lemmas.List.{append_cancel_left}
 use Rattle.sets.specs.Sets.{Numbers}
 use Rattle.tables.specs.Refusals.{Reply, answered, refused, table_refusal}
 use Rattle.tables.specs.Calls.{Puts}
@@ -10,7 +10,7 @@ use Rattle.tables.specs.declared.fault.TableFault.TheVariants.{ItemCount as Clos
 use Rattle.tables.proofs.Determined.{one_reply}
 use Rattle.duality.specs.declared.fault.PairFault.{PairFault}
 use Rattle.duality.specs.declared.fault.PairFault.TheVariants.{ItemCount, CountsDiffer}
-use Rattle.sheets.specs.Bytes.{Bytes, Feedless, Labels, spaced}
+use Rattle.sheets.specs.Bytes.{Bytes, Labels, spaced}
 use Rattle.sheets.specs.Counts.{Counts, paths_closed, cuts_closed, tables_differ, labels_differ, counts_fit}
 use Rattle.sheets.specs.Labels.{named, Absent}
 use Rattle.sheets.specs.Looks.{Looked, looked_none, looked_more}
@@ -24,7 +24,7 @@ use Rattle.sheets.specs.declared.rows_fault.RowsFault.{RowsFault}
 use Rattle.sheets.specs.declared.rows_fault.RowsFault.TheVariants.{Unformed, NoItem, Put}
 use Rattle.sheets.proofs.Parses.{path_cuts}
 use Rattle.sheets.proofs.Determined.{first_same}
-use Rattle.sheets.proofs.Fronting.{line_same}
+use Rattle.sheets.proofs.Fronting.{feed_apart, line_same}
 use Rattle.sheets.proofs.RowFronting.{row_plain, row_parts}
 use Rattle.sheets.proofs.Spans.{span_same, halts_spaced}
 
@@ -255,12 +255,6 @@ module _ (n a b : ℕ) (holds : Numbers → Type 0) (names : List Bytes) where
         (compare_rows h.rows k.rows h.rest k.rest (run_formed ps cs h.us h.vs h.rows h.run) (run_formed ps cs k.us k.vs k.rows k.run) (sym h.parts ∙ k.parts))
 
 -- ---- the lines that are skipped
-
-feed_apart : (text l after : Bytes) → Feedless text → text ≡ l ++ (10 ∷ after) → ⊥
-feed_apart text l after plain e =
-    let long = length-append l (10 ∷ after) in
-    let le = ap length e in
-    plain (length l) (omega arith) (ap (λ z. get_or z (length l) 0) e ∙ get_or_at l 10 after 0 (length l) refl)
 
 skips_same : (text x y : Bytes) (n m : ℕ) → Skips text n x → Skips text m y → (n ≡ m) × (x ≡ y)
 skips_same text x y n m (skip_stop a e f) (skip_stop b g h) = (e ∙ sym g, f ∙ sym h)

@@ -1,29 +1,13 @@
 -- The first numbers of a long list decide what a put replies: among more numbers than items one is out of range or stands twice.
-use Rattle.std.proofs.Common.{◌≡◌, ℕ, zero, suc, ◌+◌, ◌<◌, ◌≤◌, Bool, true, false, ◌||◌, eqb, List, [], ◌∷◌, ◌++◌, length, get_or, take, refl, sym, ap, ◌∙◌, subst, ⊎_elim, arith}
+use Rattle.std.proofs.Common.{◌≡◌, ℕ, zero, suc, ◌+◌, ◌<◌, ◌≤◌, true, false, List, [], ◌∷◌, ◌++◌, length, get_or, take, sym, ap, ◌∙◌, subst, ⊎_elim, arith}
 use Rattle.std.proofs.lemmas.Bool.{cases_lt}
 use Rattle.std.proofs.lemmas.List.{take_more, take_all, take-take, length-take, length-take-le, get_or-take}
-use Rattle.sets.specs.Sets.{Numbers, with, one, count, listed}
+use Rattle.sets.specs.Sets.{Numbers, with, count, listed}
 use Rattle.sets.specs.Counts.{count_same, count_with, count_none}
+use Rattle.systems.proofs.Chains.{count_most}
+use Rattle.tables.proofs.Gathering.{listed_push}
 use Rattle.tables.specs.Refusals.{Reply}
 use Rattle.tables.specs.Calls.{Passes, Pass, ItemRefused, no_such_item, repeated, cannot_hold, Puts, put_closed, put_item, put_contains, put_full, put_done}
-
-one_le : (b : Bool) → one b ≤ 1
-one_le true = omega arith
-one_le false = omega arith
-
-count_le : (s : Numbers) (n : ℕ) → count s n ≤ n
-unfolding count
-count_le s zero = omega arith
-count_le s (suc n) = omega (arith, one_le (s n), count_le s n)
-
-swapped : (a b c : Bool) → (a || (b || c)) ≡ (b || (a || c))
-swapped true true c = refl
-swapped true false c = refl
-swapped false b c = refl
-
-listed_push : (xs : List ℕ) (x j : ℕ) → listed (xs ++ x ∷ []) j ≡ with (listed xs) x j
-listed_push [] x j = refl
-listed_push (y ∷ xs) x j = ap (λ (b : Bool). eqb j y || b) (listed_push xs x j) ∙ swapped (eqb j y) (eqb j x) (listed xs j)
 
 module _ (n : ℕ) (holds : Numbers → Type 0) (ks : List ℕ) where
   -- as many members as items that pass
@@ -32,14 +16,14 @@ module _ (n : ℕ) (holds : Numbers → Type 0) (ks : List ℕ) where
   counted (suc m) h pass =
       let here = pass m (omega arith) in
       let more : count (listed (take (m + 1) ks)) n ≡ count (with (listed (take m ks)) (get_or ks m 0)) n =
-      ap (λ (z : List ℕ). count (listed z) n) (take_more ks m 0 (omega arith)) ∙ count_same (listed (take m ks ++ get_or ks m 0 ∷ [])) (with (listed (take m ks)) (get_or ks m 0)) n (λ k l. listed_push (take m ks) (get_or ks m 0) k) in
+      ap (λ (z : List ℕ). count (listed z) n) (take_more ks m 0 (omega arith)) ∙ count_same (listed (take m ks ++ get_or ks m 0 ∷ [])) (with (listed (take m ks)) (get_or ks m 0)) n (λ k l. ap (λ (s : Numbers). s k) (listed_push (take m ks) (get_or ks m 0))) in
       let step = count_with (listed (take m ks)) n (get_or ks m 0) here.below here.once in
       let rest = counted m (omega arith) (λ i l. pass i (omega arith)) in
       let s : suc m ≡ m + 1 = omega arith in
       rw s (omega arith)
 
   pub at_most : (m : ℕ) → m ≤ length ks → Pass n holds ks m → m ≤ n
-  at_most m h pass = let c = counted m h pass in let d = count_le (listed (take m ks)) n in omega arith
+  at_most m h pass = let c = counted m h pass in let d = count_most (listed (take m ks)) n in omega arith
 
 -- what is said of the first m numbers is said of the list
 module _ (n m : ℕ) (holds : Numbers → Type 0) (ks : List ℕ) where

@@ -1,10 +1,9 @@
 -- The row that a line holds, and the row that stands in front of a text.
-use Rattle.std.proofs.Common.{◌≡◌, ◌≢◌, ℕ, List, [], ◌∷◌, ◌++◌, length, get_or, codes, sym, refl, ap, ◌∙◌, MatchResult, Ok, Err, Result, append_assoc, length-append, arith}
-use Rattle.std.proofs.lemmas.List.{get_or_at}
+use Rattle.std.proofs.Common.{◌≡◌, ◌≢◌, ℕ, List, [], ◌∷◌, ◌++◌, codes, sym, refl, ◌∙◌, MatchResult, Ok, Err, Result, append_assoc, arith}
 use Rattle.sheets.specs.Bytes.{Bytes, Feedless, Labels, spaced, item_line}
 use Rattle.sheets.specs.Lines.{Unformed}
 use Rattle.sheets.specs.Rows.{RowLine, path_row, cuts_row, labels_of, line_of, RowFronts, passed}
-use Rattle.sheets.proofs.Fronting.{NoFeed, Whole, whole_each, each_whole, label_plain, line_same}
+use Rattle.sheets.proofs.Fronting.{NoFeed, Whole, whole_each, each_whole, label_plain, feed_apart, line_same}
 use Rattle.sheets.specs.RowsFaults.{at_line}
 use Rattle.sheets.specs.declared.putting.RowFault.{RowFault}
 use Rattle.sheets.specs.declared.rows_fault.RowsFault.{RowsFault}
@@ -45,8 +44,4 @@ no_rows rest line after plain parts bad r f = bad r f.0 (line_same line (line_of
 
 -- where no line feed ends it
 pub no_feed_rows : (rest : Bytes) → Feedless rest → (r : RowLine) → RowFronts rest r → ⊥
-no_feed_rows rest plain r f =
-    let e = row_parts rest r f in
-    let long = length-append (line_of r) (10 ∷ f.1.0) in
-    let le = ap length e in
-    plain (length (line_of r)) (omega arith) (ap (λ z. get_or z (length (line_of r)) 0) e ∙ get_or_at (line_of r) 10 f.1.0 0 (length (line_of r)) refl)
+no_feed_rows rest plain r f = feed_apart rest (line_of r) f.1.0 plain (row_parts rest r f)

@@ -52,14 +52,14 @@ pub(crate) fn is_visible(b: u8) -> bool
     (33..=126).contains(&b)
 }
 
-// Whether it is a label.
+// Whether the bytes are a label.
 pub(crate) fn is_label(s: &[u8]) -> bool
     ensures { Decides result (Label s.now) }
 {
     (1..=12).contains(&s.len()) && s.iter().all(|&b| is_visible(b))
 }
 
-// What stands behind the head, if it begins so.
+// What stands behind the head, if the bytes begin with it.
 pub(crate) fn behind<'a>(s: &'a [u8], head: &[u8]) -> Option<&'a [u8]>
     ensures { MatchOption result (Begins s.now head.now → ⊥) (λ rest. s.now ≡ head.now ++ rest.now) }
 {
@@ -79,7 +79,7 @@ pub(crate) fn cut_label<'a>(s: &'a [u8]) -> Option<(&'a [u8], &'a [u8])>
     is_label(label).then_some((label, rest))
 }
 
-// Whether it is what stands behind the head of a row: a space and a label for each item.
+// Whether the bytes are what stands behind the head of a row: a space and a label for each item.
 pub(crate) fn is_row(s: &[u8]) -> bool
     ensures { Decides result (Row s.now) }
 {
@@ -122,7 +122,7 @@ pub(crate) fn take_apart<'a>(line: &'a [u8]) -> Option<Line<'a>>
     None
 }
 
-// The same; `nth` is the number of the line.
+// The line of the number `nth` taken apart, or that it is not formed.
 pub(crate) fn parse<'a>(line: &'a [u8], nth: usize) -> Result<Line<'a>, LineFault>
     ensures { MatchResult result (λ v. Says v line.now) (λ f. (f ≡ Bad nth) × Unformed line.now) }
 {

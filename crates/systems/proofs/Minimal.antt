@@ -1,5 +1,5 @@
 -- Rows that are the minimal paths or the minimal cuts of a structure function, and tables for the same system.
-use Rattle.std.proofs.Common.{◌≡◌, ℕ, Bool, true, false, not, ◌&&◌, ◌||◌, T, ltb, ◌⊎◌, List, get_or, Decides, sym, subst, inl, inr, ltb→lt, lt→ltb, T_not}
+use Rattle.std.proofs.Common.{◌≡◌, ℕ, Bool, true, false, not, ◌&&◌, ◌||◌, T, ltb, ◌⊎◌, List, get_or, Decides, sym, subst, inl, inr, lt→ltb, T_not}
 use lib.Dec.{not_T}
 use Rattle.std.proofs.lemmas.Bool.{cases_Bool, both_ways, not-true, not_from_false, and_from}
 use Rattle.std.proofs.lemmas.Bool.Decides.{Decides-like, not_from_Decides}
@@ -7,6 +7,7 @@ use Rattle.sets.specs.Sets.{Numbers, nothing, Within, Same, Below, within_below}
 use Rattle.sets.specs.Truth.{and_T, T_and, or_T, holds_true, true_holds, fails_false}
 use Rattle.sets.proofs.Deciding.{decides_within}
 use Rattle.systems.specs.Systems.{Works, Fails, SameSystem, others, Structure, ProperSubset, MinimalPath, MinimalCut, Among, EachRow, Once, Antichain, Lists}
+use Rattle.systems.specs.Duals.{others_below}
 use Rattle.systems.proofs.Tables.{works_test, fails_test, decides_works, decides_fails}
 use Rattle.systems.proofs.AllSets.{all_sets, all_sets_at}
 
@@ -78,9 +79,6 @@ module _ (n : ℕ) (cuts : List Numbers) (low : EachRow cuts (Below n)) (s : Num
     there = w.there;
     down = λ k t m. T_not (s k) (and_T (ltb k n) (not (s k)) m).1 (w.up k t);
   }
-
-pub others_below : (n : ℕ) (s : Numbers) → Below n (others n s)
-others_below n s k t = ltb→lt k n (and_T (ltb k n) (not (s k)) t).0
 
 module _ (φ : Structure) (cuts : List Numbers) (low : EachRow cuts (Below φ.items)) (anti : Antichain cuts)
     (tells : (s : Numbers) → Below φ.items s → Decides (not (φ.works s)) (Fails cuts s)) where

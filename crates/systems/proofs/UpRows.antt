@@ -50,7 +50,7 @@ first_of [] i h = absurd (not-suc-le-zero h)
 first_of (x ∷ xs) i h = x
 
 -- an item that is up is one that the state has
-up_below : (state : State) → Below state.count (up state)
+pub up_below : (state : State) → Below state.count (up state)
 up_below state k t = ⊎_elim (λ l. l) (λ ge. absurd (subst T (state.down k ge) t)) (cases_lt k state.count)
 
 module _ {X : Type 0} (f : X → Numbers) (xs : List X) (state : State) where

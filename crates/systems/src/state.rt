@@ -46,7 +46,7 @@ impl State {
     }
 
     // Which items are up, as marks.
-    pub(crate) fn marks(&self) -> &Marks
+    pub fn marks(&self) -> &Marks
         ensures { Same (has_mark result.now) (up self.now) }
     {
         &self.marks

@@ -1,4 +1,4 @@
-// Sets of items in states. A path row is up or not, and a cut row is down or not: two questions, one chain each.
+// Whether the items of a set are all up in a state, or all down, and the state in which they alone are up.
 ghost use Rattle.std.specs.Prelude.{◌≡◌, ℕ, ◌<◌, ◌≤◌, Decides};
 ghost use Rattle.sets.specs.Sets.{Within, Apart};
 ghost use Rattle.systems.specs.States.{up};
@@ -20,9 +20,10 @@ pub fn all_down<K: SetKind>(set: &K, state: &State) -> bool
     set.none_marked(state.marks())
 }
 
-// The state of n items in which just those of the set are up.
+// The state of n items in which just those of the set are up; of 0 items if asked for more than 256.
 pub fn alone_up<K: SetKind>(n: usize, set: &K) -> State
     ensures count { n ≤ 256 → result.count ≡ n }
+    ensures many { 256 < n → result.count ≡ 0 }
     ensures marks { (k : ℕ) → k < result.count → up result k ≡ K.mem set.now k }
 {
     State::from_fn(n, |item| set.member(item))

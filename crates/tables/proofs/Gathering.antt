@@ -19,7 +19,7 @@ or_rotate true true c = refl
 or_rotate true false c = refl
 or_rotate false b c = refl
 
-listed_push : (xs : List ℕ) (y : ℕ) → listed (xs ++ y ∷ []) ≡ with (listed xs) y
+pub listed_push : (xs : List ℕ) (y : ℕ) → listed (xs ++ y ∷ []) ≡ with (listed xs) y
 listed_push [] y = refl
 listed_push (x ∷ xs) y = ap (λ s. with s x) (listed_push xs y) ∙ fun_ext (λ j. or_rotate (eqb j x) (eqb j y) (listed xs j))
 

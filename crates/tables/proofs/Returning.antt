@@ -1,7 +1,7 @@
 -- The rows of a table, put in their order into an empty table, give those rows.
-use Rattle.std.proofs.Common.{◌≡◌, ◌≢◌, ℕ, zero, suc, ◌+◌, ◌-◌, ◌<◌, ◌≤◌, Bool, true, false, cond, ◌&&◌, ◌||◌, ◌==◌, T, List, [], ◌∷◌, ◌++◌, length, get_or, take, filter, sym, refl, ap, ap₂, ◌∙◌, subst, inl, inr, ⊎_elim, arith}
+use Rattle.std.proofs.Common.{◌≡◌, ◌≢◌, ℕ, zero, suc, ◌+◌, ◌-◌, ◌<◌, ◌≤◌, Bool, true, false, cond, ◌&&◌, ◌||◌, ◌==◌, T, List, [], ◌∷◌, ◌++◌, length, get_or, take, sym, refl, ap, ap₂, ◌∙◌, subst, inl, inr, ⊎_elim, arith}
 use mathlib.Core.Path.{fun_ext}
-use Rattle.std.proofs.lemmas.Bool.{cases_eq, cases_lt, cond-true, eq-eqb, ne_eqb}
+use Rattle.std.proofs.lemmas.Bool.{cases_eq, cases_lt, eq-eqb, ne_eqb}
 use Rattle.std.proofs.lemmas.List.{take_more, length-take-le, get_or-take}
 use Rattle.sets.specs.Sets.{Numbers, nothing, Within, Below, listed}
 use Rattle.sets.specs.Members.{members_from}
@@ -9,11 +9,10 @@ use Rattle.sets.specs.Rising.{rising}
 use Rattle.sets.specs.Truth.{fails_false}
 use Rattle.sets.specs.Listing.{rising_cons, rising_parts, rising_from, listed_bounds, listed_at}
 use Rattle.sets.specs.ListLaws.{within_yes}
-use Rattle.systems.specs.Systems.{EachRow}
 use Rattle.tables.specs.Rows.{ContainsNone, stays, staying, after_put, Sound}
 use Rattle.tables.specs.Refusals.{answered}
 use Rattle.tables.specs.Calls.{Pass, Puts, put_done}
-use Rattle.tables.proofs.Sifting.{stays_yes}
+use Rattle.tables.proofs.Sifting.{stays_yes, kept_all}
 
 -- ---- the members of a set, listed
 
@@ -83,11 +82,6 @@ rising_once lo (x ∷ xs) t (suc i) h =
 
 -- ---- a row among those that none contains
 
-all_kept : (q : Numbers → Bool) (xs : List Numbers) → EachRow xs (λ s. q s ≡ true) → filter q xs ≡ xs
-all_kept q [] each = refl
-all_kept q (x ∷ xs) each =
-    cond-true (q x) (x ∷ filter q xs) (filter q xs) (each 0 (omega arith)) ∙ ap (λ l. x ∷ l) (all_kept q xs (λ i h. each (suc i) (omega arith)))
-
 module _ (n capacity : ℕ) (holds : Numbers → Type 0) (less : (s t : Numbers) → holds s → Within t s → holds t) (rows : List Numbers) (pos : 1 ≤ n) (sound : Sound n capacity holds rows)
     (i : ℕ) (lt : i < length rows) where
   abbrev row : Numbers
@@ -106,7 +100,7 @@ module _ (n capacity : ℕ) (holds : Numbers → Type 0) (less : (s t : Numbers)
       omega arith
 
   whole : staying n earlier row ≡ earlier
-  whole = all_kept (stays n row) earlier (λ j h.
+  whole = kept_all (stays n row) earlier (λ j h.
       let l : j < i = omega (arith, many) in
       stays_yes n row (get_or earlier j nothing) (sound.items i lt) (λ w.
       let e = sound.antichain i j lt (omega arith) (subst (λ s. Within row s) (get_or-take i rows j nothing l) w) in

@@ -8,9 +8,10 @@ use Rattle.std.proofs.lemmas.List.Edits.{length-between}
 use Rattle.std.proofs.lemmas.List.Sums.{length-filter, count_by-le-length}
 use Rattle.std.proofs.lemmas.Slice.{take-put_mid_below}
 use Rattle.std.proofs.lemmas.List.Filters.{FiltersInPlace, FiltersInPlace-all}
-use Rattle.std.proofs.lemmas.Bool.{cases_Bool}
+use Rattle.std.proofs.lemmas.Bool.{cases_Bool, cond-true}
 use Rattle.sets.specs.Sets.{Numbers, nothing, Within, Below, within_below}
 use Rattle.sets.proofs.Deciding.{decides_within, within_same}
+use Rattle.systems.specs.Systems.{EachRow}
 use Rattle.tables.specs.Memory.{Standing}
 use Rattle.tables.specs.Rows.{stays}
 
@@ -33,6 +34,12 @@ kept_whole {X} p (x ∷ xs) e = go (kept_whole p xs) (p x) e where
   go : (length (filter p xs) ≡ length xs → filter p xs ≡ xs) → (b : Bool) → length (cond b (x ∷ filter p xs) (filter p xs)) ≡ suc (length xs) → cond b (x ∷ filter p xs) (filter p xs) ≡ x ∷ xs
   go rest true h = ap (λ l. x ∷ l) (rest (omega arith))
   go rest false h = absurd (omega (arith, kept_fewer p xs))
+
+-- and so does one that all rows pass
+pub kept_all : (p : Numbers → Bool) (rows : List Numbers) → EachRow rows (λ r. p r ≡ true) → filter p rows ≡ rows
+kept_all p [] each = refl
+kept_all p (r ∷ rs) each =
+    cond-true (p r) (r ∷ filter p rs) (filter p rs) (each 0 (omega arith)) ∙ ap (λ l. r ∷ l) (kept_all p rs (λ i h. each (suc i) (omega arith)))
 
 map_kept : {X : Type 0} (mem : X → Numbers) (q : Numbers → Bool) (xs : List X) → map mem (filter (λ x. q (mem x)) xs) ≡ filter q (map mem xs)
 map_kept mem q [] = refl

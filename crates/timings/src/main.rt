@@ -30,6 +30,15 @@ fn took(rt: &(impl Print + Clock), since: &Instant, times: bool) -> io::Result<(
     println!(rt; "")
 }
 
+// Says which of the two kinds it is, by its ceiling.
+fn say_kind<K: SetKind, R: Print>(rt: &R) -> io::Result<()> {
+    if K::ceiling() == 64 {
+        print!(rt; "words, ")
+    } else {
+        print!(rt; "lists, ")
+    }
+}
+
 fn audited<K: SetKind>(
     rt: &(impl Print + Clock + AllocGlobal),
     name: &str,
@@ -47,6 +56,7 @@ fn audited<K: SetKind>(
     for row in rows.1 {
         let _ = cuts.put(row.as_slice());
     }
+    say_kind::<K, _>(rt)?;
     let start = Instant::now(rt)?;
     match audit(&paths, &cuts) {
         Ok(verdict) => print!(rt;
@@ -68,9 +78,7 @@ fn both(
     cuts: &Rows,
     times: bool,
 ) -> io::Result<()> {
-    print!(rt; "words, ")?;
     audited::<WordSet>(rt, name, items, (paths, cuts), times)?;
-    print!(rt; "lists, ")?;
     audited::<ListSet>(rt, name, items, (paths, cuts), times)
 }
 

@@ -13,6 +13,7 @@ use Rattle.duality.specs.Verdicts.{Audited}
 use Rattle.duality.specs.declared.verdict.Verdict.{Verdict}
 use Rattle.sheets.specs.Bytes.{Bytes}
 use Rattle.sheets.specs.Labels.{named}
+use Rattle.sheets.proofs.Calling.{Called}
 use Rattle.sheets.specs.RowsCalls.{RowsCall, rows_read}
 use Rattle.sheets.specs.declared.place.LabelPlace.{LabelPlace}
 use Rattle.sheets.specs.declared.rows_fault.RowsFault.{RowsFault}
@@ -38,11 +39,6 @@ pub record ReadIn {X : Type 0} {G : Ghosts X} (mem : X → Numbers) (holds : Num
   pub path_memory : Left mem paths paths' (min 4096 (length paths)) (length ps) ps
   pub cut_memory : Left mem cuts cuts' (min 4096 (length cuts)) (length cs) cs
 
--- what the second reading call promises of the tables P and C, which are P₀ and C₀ before it
-abbrev pub Reads : {X : Type 0} {G : Ghosts X} → (X → Numbers) → (Numbers → Type 0) → Bytes → List LabelPlace → Table X G → Table X G → Result (Unit {0}) RowsFault → Table X G → Table X G → Type 0
-Reads mem holds text labels P₀ C₀ reply P C = (p c : ℕ) (ps cs : List Numbers) → Holds mem P₀ p ps → Holds mem C₀ c cs
-    → (qs ds : List Numbers) × Holds mem P p qs × Holds mem C c ds × (Past p P₀.capacity C₀.capacity holds ps cs → Past p P₀.capacity C₀.capacity holds qs ds) × RowsCall p c P₀.capacity C₀.capacity holds text labels ps cs reply qs ds
-
 pub text_short : {n a b : ℕ} {holds : Numbers → Type 0} {text : Bytes} {labels : List LabelPlace} {ps cs qs ds : List Numbers} → RowsCall n n a b holds text labels ps cs (Ok tt) qs ds → length text ≤ 65535
 text_short (rows_read lines rest r qs ds fit short skips read) = short
 
@@ -52,7 +48,7 @@ Answered mem holds text labels paths paths' cuts cuts' before r after = (bytes :
 
 module _ {X : Type 0} {G : Ghosts X} {mem : X → Numbers} {holds : Numbers → Type 0} {text : Bytes} {labels : List LabelPlace} {paths paths' cuts cuts' : List (Row X)} {P₀ P C₀ C : Table X G}
     (op : Opened mem (length labels) paths P₀) (oc : Opened mem (length labels) cuts C₀) (kp : Kept P₀ P) (kc : Kept C₀ C) (ep : paths' ≡ places P) (ec : cuts' ≡ places C) where
-  read_in : {reply : Result (Unit {0}) RowsFault} → Reads mem holds text labels P₀ C₀ reply P C → ReadIn mem holds text labels paths paths' cuts cuts' P C reply
+  read_in : {reply : Result (Unit {0}) RowsFault} → Called mem holds text labels P₀ C₀ reply P C → ReadIn mem holds text labels paths paths' cuts cuts' P C reply
   read_in {reply} reads =
       let n = length labels in
       let w = reads n n [] [] op.empty oc.empty in
@@ -74,13 +70,13 @@ module _ {X : Type 0} {G : Ghosts X} {mem : X → Numbers} {holds : Numbers → 
   answered {reply} w room found reports = record { reply = reply; ps = w.ps; cs = w.cs; call = w.call; reports = reports; prints = refl; path_memory = w.path_memory; cut_memory = w.cut_memory }
 
   -- a row is refused
-  pub answered_refused : (before : Bytes) {r : Result Reported TextFault} {fault : RowsFault} → r ≡ Err (Rows fault) → Reads mem holds text labels P₀ C₀ (Err fault) P C
+  pub answered_refused : (before : Bytes) {r : Result Reported TextFault} {fault : RowsFault} → r ≡ Err (Rows fault) → Called mem holds text labels P₀ C₀ (Err fault) P C
       → Answered mem holds text labels paths paths' cuts cuts' before r before
   answered_refused before {r} {fault} e reads =
       subst (λ x. Answered mem holds text labels paths paths' cuts cuts' before x before) (sym e) (_, answered (read_in reads) (length before) (Err (Rows fault)) (row_refused fault), refl)
 
   -- the rows are read
-  module _ (reads : Reads mem holds text labels P₀ C₀ (Ok tt) P C) where
+  module _ (reads : Called mem holds text labels P₀ C₀ (Ok tt) P C) where
     pub audit_not_refused : {T : Type 0} → 1 ≤ length labels → ((n : ℕ) (ps cs : List Numbers) → Past n P.capacity C.capacity holds ps cs → Holds mem P n ps → Holds mem C n cs → n ≡ 0) → T
     audit_not_refused some none = let w = read_in reads in let e = none (length labels) w.ps w.cs w.past w.hold_paths w.hold_cuts in absurd (omega arith)
 

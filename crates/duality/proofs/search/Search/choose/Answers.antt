@@ -1,12 +1,20 @@
-use Rattle.std.proofs.Common.{◌≡◌, ℕ, arith, rules}
-use Rattle.std.specs.Option.{option_map}
-use Rattle.std.proofs.lemmas.Option.{gets}
+use mathlib.Core.Path.{fun_ext}
+use Rattle.std.proofs.Common.{◌≡◌, ◌&&◌, not, MatchOption, sym, ap₂, ◌∙◌, subst}
+use Rattle.sets.specs.Sets.{Numbers, NoneFrom}
 use Rattle.systems.specs.States.{up}
-use Rattle.duality.specs.Shares.{Chosen}
-use Rattle.duality.proofs.Choosing.{best_chosen, chosen_map}
+use Rattle.duality.specs.Shares.{Leads}
+use Rattle.duality.specs.Remaining.{left_masks}
+use Rattle.duality.proofs.Choosing.{chosen}
 use Rattle.duality.proofs.search.Search.choose.Goals as goal
 
-pub returns : goal.returns
-returns c ps cs p q =
-    let e : c.map.result ≡ option_map (λ (b : ℕ × ℕ). b.0) c.loop-item.best = search (rules, gets) in
-    chosen_map _ (Chosen ps cs (up c.args.self.now.low) (up c.args.self.now.high)) _ _ e (best_chosen ps cs c.args.paths.now c.args.cuts.now c.args.self.now.low c.args.self.now.high p q c.loop-item.item c.loop-item.best (omega (arith, c.count-item-end.ensures)) c.loop-item.invariant)
+pub returns-clause-chosen : goal.returns-clause-chosen
+returns-clause-chosen g c =
+    let bits = g.M.Mask.bits in
+    let s = c.args.self.now in
+    let ps = left_masks bits c.args.paths.now in
+    let cs = left_masks bits c.args.cuts.now in
+    let undecided : Numbers = λ k. up s.high k && not (up s.low k) in
+    let is : bits c.without-undecided.result ≡ undecided =
+    fun_ext (λ k. c.without-undecided.ensures k ∙ ap₂ (λ (h l : Numbers). h k && not (l k)) c.mask_of.ensures c.mask_of-2.ensures) in
+    let found = c.choose.ensures ps cs (sym c.tally-path_count.ensures.count) (sym c.tally-cut_count.ensures.count) c.tally-path_count.ensures.tallied c.tally-cut_count.ensures.tallied in
+    chosen (up s.low) (up s.high) (Leads ps cs undecided) c.choose.result (subst (λ (u : Numbers). MatchOption c.choose.result (NoneFrom u 0) (Leads ps cs u)) is found)

@@ -1,23 +1,18 @@
-use Rattle.std.proofs.Common.{take, sym, subst, rules}
-use Rattle.sets.proofs.Lists.{FirstFrom, first_found, lowest_read, number_of, none_high}
+use Rattle.std.proofs.Common.{nat_le, take, MatchOption, ◌∙◌, sym, subst, rules, tests, ap}
+use Rattle.std.specs.List.{find}
+use Rattle.std.proofs.lemmas.List.{map-id}
+use Rattle.std.proofs.lemmas.Iterator.{YieldsList-from_slice, YieldsList-from_map}
+use Rattle.std.proofs.lemmas.Iterator.Adapters.{option_map_id}
+use Rattle.std.proofs.lemmas.Iterator.Search.{find_from_yields_List}
+use Rattle.sets.specs.Sets.{listed, NoneFrom, Lowest}
+use Rattle.sets.proofs.Lists.{lowest_found}
 use Rattle.sets.proofs.list.ListSetSetKind.next.Goals as goal
-use Rattle.sets.proofs.list.ListSetSetKind.next.Goals.{in-Ok, in-Ok-2}
-
-pub returns-in_err-number : goal.returns-in_err-number
-returns-in_err-number c =
-    let xs = take c.args.self.now.len c.args.self.now.numbers in
-    rw c.from_residual.ensures (none_high c.try_from.result xs c.args.self.now.ok.1 c.try_from.ensures c.in_err-number.ensures.variant)
 
 pub returns : goal.returns
 returns c =
     let xs = take c.args.self.now.len c.args.self.now.numbers in
-    let up = c.args.self.now.ok.1 in
-    let is = number_of c.try_from.result c.try_from.ensures c.in_ok-number.ensures.value in
-    let found = c.binary_search.ensures.position in
-    let first : FirstFrom c.in_ok-number.number xs c.match-binary_search.at =
-    elim c.match-binary_search.branch [
-      | in-Ok w ↦ subst (FirstFrom c.in_ok-number.number xs) (sym w.at-is) (first_found xs _ c.in_ok-number.number w.in-Ok.at c.binary_search.result up c.as_slice.ensures found w.in-Ok.is)
-      | in-Ok-2 w ↦ subst (FirstFrom c.in_ok-number.number xs) (sym w.at-is) (first_found xs _ c.in_ok-number.number w.in-Ok.at c.binary_search.result up c.as_slice.ensures found w.in-Ok.is)
-    ] in
-    lowest_read (λ x. x.now) _ c.args.k xs _ c.match-binary_search.at c.get.result c.map.result up c.as_slice-2.ensures (subst (λ k. FirstFrom k xs c.match-binary_search.at) is first)
-    c.get.ensures.lookup.3 c.map.ensures.cases (λ x r q. search rules)
+    let k = c.args.k in
+    let found =
+    find_from_yields_List (λ x. nat_le k x) _ _ c.find.result c.find.ensures.ran
+    (YieldsList-from_map {ys = xs} _ (λ x. x) (YieldsList-from_slice xs cc) c.map.ensures.closure (λ x r q k. search rules)) (λ x b q k. search (rules, tests)) in
+    subst (λ o. MatchOption o (NoneFrom (listed xs) k) (Lowest (listed xs) k)) (sym (sym (option_map_id c.find.result) ∙ found ∙ ap (find (λ x. nat_le k x)) (map-id xs))) (lowest_found 0 k xs c.args.self.now.ok.1)

@@ -1,0 +1,4 @@
+pub mod ReportCalls
+pub mod SheetCalls
+pub mod Fills
+pub mod AuditCalls
