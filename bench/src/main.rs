@@ -20,7 +20,7 @@ use std::process::ExitCode;
 const SEED: u64 = 1;
 const COUNT: u64 = 60_000;
 
-const USAGE: &str = "bench compare [SEED [COUNT [FROM]]]   compare library and twin, in cases made from the seed
+const USAGE: &str = "bench compare [SEED [COUNT [FROM]]]   compare library and twin, in cases made from a seed
 bench speed [PART]                    measure one audit by both, in families whose name has this part
 bench solver [SOLVER]                 measure whole processes: the library, and SAT solvers
 bench text SEED NUMBER                the bytes of one case

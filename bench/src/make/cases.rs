@@ -1,4 +1,4 @@
-// The cases of a comparison: texts and tables, each made from the seed and its own number.
+// The cases of a comparison: texts and tables, each made from a seed and its own number.
 
 use super::families::{self, System};
 use super::{texts, Rng};
