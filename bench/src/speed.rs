@@ -12,8 +12,8 @@ use std::hint::black_box;
 use std::time::Instant;
 
 /// Audits are repeated until they take so long together, and each measurement is made so often.
-const SECONDS: f64 = 0.2;
-const ROUNDS: usize = 5;
+const SECONDS: f64 = 0.1;
+const ROUNDS: usize = 11;
 /// The largest ratio is that of audits which take the library at least so many seconds.
 const SHORTEST: f64 = 1e-6;
 

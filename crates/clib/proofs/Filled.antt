@@ -14,7 +14,7 @@ use Rattle.clib.specs.Fills.{cut, Fills, fills_none, fills_next, fills_refused}
 
 -- ---- the rows
 
-pub cut_next : (left lens : List ℕ) (i : ℕ) → i < length lens
+cut_next : (left lens : List ℕ) (i : ℕ) → i < length lens
     → cut left (drop i lens) ≡ take (get_or lens i 0) left ∷ cut (drop (get_or lens i 0) left) (drop (i + 1) lens)
 cut_next left lens i h = rw (add-one, drop-cons lens i 0) refl
 
@@ -29,7 +29,7 @@ row_taken left lens i inside least front back =
 -- ---- the loop
 
 -- what `put` and `fill` say of tables
-abbrev pub Put : {X : Type 0} {G : Ghosts X} → (X → Numbers) → (Numbers → Type 0) → List ℕ → Table X G → Result ℕ TableFault → Table X G → Type 0
+abbrev Put : {X : Type 0} {G : Ghosts X} → (X → Numbers) → (Numbers → Type 0) → List ℕ → Table X G → Result ℕ TableFault → Table X G → Type 0
 Put mem holds row T r U = (n : ℕ) (ps : List Numbers) → Holds mem T n ps → (qs : List Numbers) × Puts n T.capacity holds ps row (table_reply r) qs × Holds mem U n qs
 
 abbrev pub Filled : {X : Type 0} {G : Ghosts X} → (X → Numbers) → (Numbers → Type 0) → List (List ℕ) → Table X G → Result (Unit {0}) TableFault → Table X G → Type 0
@@ -40,17 +40,17 @@ abbrev pub Going : {X : Type 0} {G : Ghosts X} → (X → Numbers) → (Numbers 
 Going {X} {G} mem holds all T₀ left T = (r : Result (Unit {0}) TableFault) (U : Table X G) → Filled mem holds left T r U → Filled mem holds all T₀ r U
 
 module _ {X : Type 0} {G : Ghosts X} (mem : X → Numbers) (holds : Numbers → Type 0) where
-  pub filled_none : (T : Table X G) → Filled mem holds [] T (Ok tt) T
+  filled_none : (T : Table X G) → Filled mem holds [] T (Ok tt) T
   filled_none T n ps h = (ps, fills_none ps, h)
 
-  pub filled_next : (T U V : Table X G) (row : List ℕ) (rows : List (List ℕ)) (many : ℕ) (r : Result (Unit {0}) TableFault) → U.capacity ≡ T.capacity
+  filled_next : (T U V : Table X G) (row : List ℕ) (rows : List (List ℕ)) (many : ℕ) (r : Result (Unit {0}) TableFault) → U.capacity ≡ T.capacity
       → Put mem holds row T (Ok many) U → Filled mem holds rows U r V → Filled mem holds (row ∷ rows) T r V
   filled_next T U V row rows many r same put rest n ps h =
       let p = put n ps h in
       let f = rest n p.0 p.2 in
       (f.0, fills_next ps p.0 f.0 row rows many r p.1 (subst (λ c. Fills n c holds p.0 rows r f.0) same f.1), f.2)
 
-  pub filled_refused : (T U : Table X G) (row : List ℕ) (rows : List (List ℕ)) (fault : TableFault) → Put mem holds row T (Err fault) U
+  filled_refused : (T U : Table X G) (row : List ℕ) (rows : List (List ℕ)) (fault : TableFault) → Put mem holds row T (Err fault) U
       → Filled mem holds (row ∷ rows) T (Err fault) U
   filled_refused T U row rows fault put n ps h = let p = put n ps h in (p.0, fills_refused ps p.0 row rows fault p.1, p.2)
 

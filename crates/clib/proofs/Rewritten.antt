@@ -59,7 +59,7 @@ record ReadIn {X : Type 0} {G : Ghosts X} (mem : X → Numbers) (holds : Numbers
   call : RowsCall (length labels) (length labels) 1000 1000 holds text labels [] [] reply ps cs
 
 -- what `write_sheet` promises of the tables P and C
-abbrev pub Writing : {X : Type 0} {G : Ghosts X} → (X → Numbers) → Bytes → List LabelPlace → Table X G → Table X G → Bytes → Result ℕ WriteFault → Bytes → Type 0
+abbrev Writing : {X : Type 0} {G : Ghosts X} → (X → Numbers) → Bytes → List LabelPlace → Table X G → Table X G → Bytes → Result ℕ WriteFault → Bytes → Type 0
 Writing mem text labels P C before r after = (p c : ℕ) (ps cs : List Numbers) → Holds mem P p ps → Holds mem C c cs
     → Writes p c text (length labels) (λ bs. bs ≡ sheet_text (map (named text) labels) ps cs) before r after
 

@@ -100,7 +100,7 @@ module _ (n a b : ℕ) (holds : Numbers → Type 0) (φ : Structure) (ps cs : Li
       some_cut_unheld : SomeUnheld holds (dual φ) → ((c : Numbers) → MinimalCut φ c → holds c) → ⊥
       some_cut_unheld u h = u (λ c m. h c (dual_minimal φ c m))
 
-      pub blocked_completed : (f : CompletionFault) → BlocksAt a b holds φ qs ds f → Completed n a b holds φ ps cs (refused (completion_refusal f).number (completion_refusal f).values) qs ds
+      blocked_completed : (f : CompletionFault) → BlocksAt a b holds φ qs ds f → Completed n a b holds φ ps cs (refused (completion_refusal f).number (completion_refusal f).values) qs ds
       blocked_completed f (paths_block Full w) =
           refuses (refused 10 (0 ∷ [])) (complete_paths_full count paths_improved cuts_improved w.full w.more) (λ p. w.more p.path_room)
       blocked_completed f (paths_block Unheld w) =
@@ -111,7 +111,7 @@ module _ (n a b : ℕ) (holds : Numbers → Type 0) (φ : Structure) (ps cs : Li
           refuses (refused 11 (1 ∷ [])) (complete_cuts_unheld count paths_improved cuts_improved (some_cut_unheld w)) (λ p. some_cut_unheld w p.cuts_held)
 
       module _ (paths_borne : EachRow ps (PathBorne φ)) (cuts_borne : EachRow cs (CutBorne φ)) where
-        pub done_completed : AllCovered n qs ds → Completed n a b holds φ ps cs (answered tt) qs ds
+        done_completed : AllCovered n qs ds → Completed n a b holds φ ps cs (answered tt) qs ds
         done_completed cover =
             let covered = subst (λ (k : ℕ). AllCovered k qs ds) (sym count) cover in
             let paths : Lists qs (MinimalPath φ) = lists_paths φ qs ds tight.paths.minimals.minimal cuts_minimal covered paths_improved.once in

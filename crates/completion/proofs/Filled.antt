@@ -33,7 +33,7 @@ Filled mem holds φ P C P' C' r = (n : ℕ) (ps cs : List Numbers) → 1 ≤ n �
     → Minimals n P.capacity holds φ ps → Minimals n C.capacity holds (dual φ) cs
     → (qs ds : List Numbers) × Holds mem P' n qs × Holds mem C' n ds × Fills n P.capacity C.capacity holds φ ps cs r qs ds
 
-abbrev pub Learnt : {X : Type 0} {G : Ghosts X} → (X → Numbers) → (Numbers → Type 0) → Structure → State → Table X G → Table X G → Table X G → Table X G → Result (Unit {0}) CompletionFault → Type 0
+abbrev Learnt : {X : Type 0} {G : Ghosts X} → (X → Numbers) → (Numbers → Type 0) → Structure → State → Table X G → Table X G → Table X G → Table X G → Result (Unit {0}) CompletionFault → Type 0
 Learnt mem holds φ missed P C P' C' r = (n : ℕ) (ps cs : List Numbers) → 1 ≤ n → Holds mem P n ps → Holds mem C n cs → φ.items ≡ n → MissedState n ps cs missed
     → Minimals n P.capacity holds φ ps → Minimals n C.capacity holds (dual φ) cs
     → (qs ds : List Numbers) × Holds mem P' n qs × Holds mem C' n ds × Learns n P.capacity C.capacity holds φ ps cs r qs ds

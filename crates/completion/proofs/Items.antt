@@ -13,7 +13,7 @@ use Rattle.tables.proofs.Gathering.{listed_push, pass_held}
 use Rattle.completion.specs.Offers.{Offers, offer_closed, offer_unheld, offer_contains, offer_full, offer_done}
 
 -- each item stands in the list for the first time
-abbrev pub Distinct : List ℕ → Type 0
+abbrev Distinct : List ℕ → Type 0
 Distinct xs = (i : ℕ) → i < length xs → listed (take i xs) (get_or xs i 0) ≡ false
 
 -- the items are those of s below k

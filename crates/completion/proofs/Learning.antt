@@ -37,7 +37,7 @@ both_trans s t = record { paths = tightened_trans s.paths t.paths; cuts = tighte
 -- ---- what `learn` says, from what `add` says
 
 -- u is r with the side put on
-abbrev pub Sided : Side → Result (Unit {0}) Blocked → Result (Unit {0}) CompletionFault → Type 0
+abbrev Sided : Side → Result (Unit {0}) Blocked → Result (Unit {0}) CompletionFault → Type 0
 Sided side r u = MatchResult r (λ x. u ≡ Ok x) (λ w. IsErrAnd u (λ f. f ≡ blocked_at side w))
 
 module _ (n a b : ℕ) (holds : Numbers → Type 0) (φ : Structure) (ps cs : List Numbers)
@@ -57,11 +57,11 @@ module _ (n a b : ℕ) (holds : Numbers → Type 0) (φ : Structure) (ps cs : Li
 -- ---- a state the other way
 
 -- no cut is down in s: none lies within the items that are down
-pub no_cut_within : (n : ℕ) (cs : List Numbers) → EachRow cs (Below n) → (s : Numbers) → Below n s → (Fails cs s → ⊥) → Works cs (others n s) → ⊥
+no_cut_within : (n : ℕ) (cs : List Numbers) → EachRow cs (Below n) → (s : Numbers) → Below n s → (Fails cs s → ⊥) → Works cs (others n s) → ⊥
 no_cut_within n cs low s b h w = h (subst (λ (v : Numbers). Fails cs v) (others_twice n s b) (within_fails n cs low (others n s) w))
 
 -- where the system does not work, its dual works the other way
-pub dual_works : (φ : Structure) (s : Numbers) → Below φ.items s → (T (φ.works s) → ⊥) → T ((dual φ).works (others φ.items s))
+dual_works : (φ : Structure) (s : Numbers) → Below φ.items s → (T (φ.works s) → ⊥) → T ((dual φ).works (others φ.items s))
 dual_works φ s b h = not_T (φ.works (others φ.items (others φ.items s))) (λ t. h (subst (λ (v : Numbers). T (φ.works v)) (others_twice φ.items s b) t))
 
 -- f has every item the other way

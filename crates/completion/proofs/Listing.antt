@@ -24,7 +24,7 @@ module _ (φ : Structure) (ps cs : List Numbers) (paths : EachRow ps (MinimalPat
       record { row = w.row; there = w.there; same = within_both r c w.up (minimal_cut_back φ r c (cuts w.row w.there) m w.up) }
 
   -- in the state of a minimal path no cut row is down
-  pub all_paths : (p : Numbers) → MinimalPath φ p → Among ps p
+  all_paths : (p : Numbers) → MinimalPath φ p → Among ps p
   all_paths p m =
       elim (cover p m.items) [
         | inl w ↦ path_among p m w
@@ -32,7 +32,7 @@ module _ (φ : Structure) (ps cs : List Numbers) (paths : EachRow ps (MinimalPat
       ]
 
   -- with a minimal cut alone down no path row is up
-  pub all_cuts : (c : Numbers) → MinimalCut φ c → Among cs c
+  all_cuts : (c : Numbers) → MinimalCut φ c → Among cs c
   all_cuts c m =
       elim (cover (others φ.items c) (others_below φ.items c)) [
         | inl w ↦ absurd (m.stops (φ.monotone (get_or ps w.row nothing) (others φ.items c) (paths w.row w.there).items (others_below φ.items c) w.up (paths w.row w.there).works))

@@ -15,7 +15,7 @@ use Rattle.completion.specs.declared.call.Call.{Call}
 use Rattle.completion.specs.declared.call.Answer.{Answer}
 use Rattle.completion.specs.declared.refused.Refused.{Refused}
 
-pub run_push : {n a b : ℕ} {holds : Numbers → Type 0} {drawings : List Structure} {call : Call} {calls : List Call} {answer : Result Answer Refused} {answers : List (Result Answer Refused)} {ps cs us vs qs ds : List Numbers}
+run_push : {n a b : ℕ} {holds : Numbers → Type 0} {drawings : List Structure} {call : Call} {calls : List Call} {answer : Result Answer Refused} {answers : List (Result Answer Refused)} {ps cs us vs qs ds : List Numbers}
     → Run n a b holds drawings calls ps cs answers us vs → Past n a b holds us vs → Step n a b holds drawings call us vs answer qs ds
     → Run n a b holds drawings (calls ++ call ∷ []) ps cs (answers ++ answer ∷ []) qs ds
 run_push none past step = next past step none
@@ -34,7 +34,7 @@ abbrev pub Running : {X : Type 0} {G : Ghosts X} → (X → Numbers) → (Number
 Running mem holds drawings calls answers made P₀ C₀ P C = (n : ℕ) → Holds mem P₀ n [] → Holds mem C₀ n [] → Reached mem holds drawings calls answers made n P₀.capacity C₀.capacity P C
 
 -- what `step` says
-abbrev pub Stepped : {X : Type 0} {G : Ghosts X} → (X → Numbers) → (Numbers → Type 0) → List Structure → Call → Result Answer Refused → Table X G → Table X G → Table X G → Table X G → Type 0
+abbrev Stepped : {X : Type 0} {G : Ghosts X} → (X → Numbers) → (Numbers → Type 0) → List Structure → Call → Result Answer Refused → Table X G → Table X G → Table X G → Table X G → Type 0
 Stepped mem holds drawings call answer P C P' C' = (n : ℕ) (ps cs : List Numbers) → Past n P.capacity C.capacity holds ps cs → Holds mem P n ps → Holds mem C n cs
     → (qs ds : List Numbers) × Holds mem P' n qs × Holds mem C' n ds × Past n P.capacity C.capacity holds qs ds × Step n P.capacity C.capacity holds drawings call ps cs answer qs ds
 

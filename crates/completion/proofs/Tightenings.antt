@@ -20,7 +20,7 @@ use Rattle.completion.proofs.RowLists.{each_left, each_right, each_append, each_
 
 -- ---- each row has a row within it
 
-pub put_finer : (n : ℕ) (rows : List Numbers) (p : Numbers) → Below n p → Finer rows (after_put n rows p)
+put_finer : (n : ℕ) (rows : List Numbers) (p : Numbers) → Below n p → Finer rows (after_put n rows p)
 put_finer n rows p low i h =
     let r = get_or rows i nothing in
     ⊎_elim

@@ -1,5 +1,5 @@
 // The completion of two tables from a drawing.
-ghost use Rattle.std.specs.Prelude.{◌≡◌, ℕ, List};
+ghost use Rattle.std.specs.Prelude.{ℕ, List};
 ghost use Rattle.sets.specs.Sets.{Numbers};
 ghost use Rattle.tables.specs.Pasts.{Past};
 ghost use Rattle.tables.specs.Tables.{Holds, Kept, Unchanged};

@@ -1,5 +1,5 @@
 // Whole runs of calls.
-ghost use Rattle.std.specs.Prelude.{◌≡◌, ℕ, ◌<◌, ◌≤◌, min, ◌⊎◌, List, [], map, length};
+ghost use Rattle.std.specs.Prelude.{◌≡◌, ℕ, ◌<◌, ◌≤◌, min, ◌⊎◌, List, map, length};
 ghost use Rattle.sets.specs.Sets.{Numbers};
 ghost use Rattle.tables.specs.Memory.{Beyond};
 ghost use Rattle.tables.specs.Pasts.{Past};

@@ -1,30 +1,27 @@
 -- The rows that a search has dropped are left in no half below the split at which they were.
-use Rattle.std.proofs.Common.{◌≡◌, ℕ, zero, suc, ◌+◌, ◌<◌, ◌≤◌, Bool, true, false, cond, not, ◌&&◌, ◌||◌, ◌⊎◌, List, [], ◌∷◌, map, length, get_or, set, eqb, sym, refl, ap, ◌∙◌, subst, inl, inr, ⊎_elim, arith, nat_lt, Decides}
+use Rattle.std.proofs.Common.{◌≡◌, ℕ, zero, suc, ◌+◌, ◌<◌, ◌≤◌, Bool, true, false, cond, not, ◌&&◌, ◌||◌, ◌⊎◌, List, [], ◌∷◌, map, length, get_or, set, take, ◌++◌, eqb, sym, refl, ap, ap₂, ◌∙◌, subst, inl, inr, ⊎_elim, arith, nat_lt, Decides}
 use Rattle.std.specs.List.{list_any, count_by}
 use Rattle.std.proofs.lemmas.Bool.{true≢false, false≢true, cond_both, eqb-true, lt-ltb}
 use Rattle.std.proofs.lemmas.List.{get_or-set_same, get_or-set_other}
 use Rattle.std.proofs.lemmas.List.Sums.{sum_by-cons}
-use Rattle.sets.specs.Sets.{Numbers, Below, within_below}
+use Rattle.sets.specs.Sets.{Numbers, within_below}
 use Rattle.systems.specs.States.{up}
 use Rattle.systems.specs.Systems.{Works, Fails}
 use Rattle.systems.specs.declared.state.State.{State}
 use Rattle.tables.specs.Memory.{meant}
 use Rattle.tables.specs.declared.row.Row.{Row}
-use Rattle.duality.specs.Halves.{turned, backed, least, greatest, Fresh, Half}
+use Rattle.duality.specs.Halves.{opened, turned, backed, least, greatest, Fresh, Half}
 use Rattle.duality.specs.Shares.{is_within, is_apart}
-use Rattle.duality.specs.Remaining.{Alike, Stronger, any_row, Sifted, kept, gone_back, standing}
+use Rattle.duality.specs.Remaining.{Alike, Stronger, any_row, Sifted, Unmoved, GoneBack, kept, standing}
+use Rattle.duality.specs.Asides.{left_path, left_cut, KeptFor, Aside, AsideOf}
+use Rattle.duality.specs.Searches.{Stands, Known}
+use Rattle.duality.specs.declared.search.Search.{Search}
 use Rattle.duality.specs.declared.splits.Frame.{Frame}
 use Rattle.duality.specs.declared.left.Left.{Left}
-use Rattle.duality.proofs.Sifting.{alike_then, alike_under, any_map}
+use Rattle.duality.proofs.Sifting.{alike_then, alike_under}
 use Rattle.duality.proofs.RowFacts.{decides_works, decides_fails}
 
--- ---- which rows are left in the half of some splits
-abbrev pub left_path : ℕ → List Frame → Numbers → Bool
-left_path n fs r = is_within r (greatest n fs)
-
-abbrev pub left_cut : List Frame → Numbers → Bool
-left_cut fs r = is_apart r (least fs)
-
+-- ---- a row that is left in a half is left in a greater
 either : (a b c : Bool) → (b ≡ true → c ≡ true) → (not a || b) ≡ true → (not a || c) ≡ true
 either true b c h e = h e
 either false b c h e = refl
@@ -104,16 +101,6 @@ module _ {test : Numbers → Bool} {all some : List Numbers} (h : Alike test all
 
 -- ---- the rows that are kept for each open split
 
--- the first c of them now, and for each split as many as its count says
-abbrev pub KeptFor : (List Frame → Numbers → Bool) → List Numbers → (ℕ → List Numbers) → List ℕ → ℕ → List Frame → Type 0
-KeptFor A all part counts c [] = Unit {0}
-KeptFor A all part counts c (f ∷ fs) =
-    (c ≤ get_or counts (length fs) 0) × Alike (A fs) all (part (get_or counts (length fs) 0)) × KeptFor A all part counts (get_or counts (length fs) 0) fs
-
-pub record Aside (A : List Frame → Numbers → Bool) (all : List Numbers) (part : ℕ → List Numbers) (counts : List ℕ) (c : ℕ) (fs : List Frame) : Type 0 where
-  pub here : Alike (A fs) all (part c)
-  pub before : KeptFor A all part counts c fs
-
 module _ (A : List Frame → Numbers → Bool) (all : List Numbers) where
   any_stronger : (q : Numbers → Bool) → Stronger q any_row
   any_stronger q r e = refl
@@ -179,14 +166,23 @@ module _ (A : List Frame → Numbers → Bool) (all : List Numbers) where
         })
 
 -- ---- the same of the rows that stand in a `Left`
-abbrev pub AsideOf : {M K : Type 0} → (M → Numbers) → (K → Numbers) → List Numbers → (List Frame → Numbers → Bool) → Left M K → List Frame → Type 0
-AsideOf bits mem all A left fs = Aside A all (standing bits mem left) left.counts left.count fs
-
 module _ {M K : Type 0} (bits : M → Numbers) (mem : K → Numbers) (all : List Numbers) (A : List Frame → Numbers → Bool) where
   pub left_sifted : (test : Numbers → Bool) (before after : Left M K) (fs : List Frame) → Sifted bits mem test before after → Stronger (A fs) test → AsideOf bits mem all A before fs → AsideOf bits mem all A after fs
   left_sifted test before after fs s w k =
       subst (λ counts. Aside A all (standing bits mem after) counts after.count fs) (sym s.counts)
       (aside_sifted A all (standing bits mem before) (standing bits mem after) before.counts before.count after.count fs s.fewer s.others (alike_under w s.left) k)
+
+  same_standing : (before after : Left M K) → after.behind ≡ before.behind → after.masks.now ≡ before.masks.now → standing bits mem after ≡ standing bits mem before
+  unfolding standing
+  same_standing before after behind masks =
+      let stand : List (Row K) → List M → ℕ → List Numbers = λ rows places c. map (meant mem) rows ++ map bits (take c places) in
+      ap₂ stand (ap (λ b. b.now) behind) masks
+
+  pub left_same : (before after : Left M K) (fs : List Frame) → Unmoved before after → AsideOf bits mem all A before fs → AsideOf bits mem all A after fs
+  left_same before after fs u k =
+      subst (λ part. Aside A all part after.counts after.count fs) (sym (same_standing before after u.behind u.masks))
+      (subst (λ counts. Aside A all (standing bits mem before) counts after.count fs) (sym u.counts)
+      (subst (λ c. Aside A all (standing bits mem before) before.counts c fs) (sym u.count) k))
 
   pub left_kept : (left after : Left M K) (f : Frame) (fs gs : List Frame) → after ≡ kept left (length fs) → gs ≡ f ∷ fs → length fs < length left.counts → Stronger (A (f ∷ fs)) (A fs) → AsideOf bits mem all A left fs → AsideOf bits mem all A after gs
   unfolding standing
@@ -194,35 +190,82 @@ module _ {M K : Type 0} (bits : M → Numbers) (mem : K → Numbers) (all : List
       subst (λ hs. AsideOf bits mem all A after hs) (sym i)
       (subst (λ l. AsideOf bits mem all A l (f ∷ fs)) (sym e) (aside_push A all (standing bits mem left) left.counts left.count f fs lt w k))
 
-  pub left_back : (left after : Left M K) (split : ℕ) (fs gs : List Frame) → after ≡ gone_back left split → gs ≡ backed fs → length gs ≡ split + 1 → ((f : Frame) (rest : List Frame) → gs ≡ f ∷ rest → Stronger (A (f ∷ rest)) (A rest)) → AsideOf bits mem all A left fs → AsideOf bits mem all A after gs
-  unfolding standing
-  left_back left after split fs gs e i long w k =
-      subst (λ l. AsideOf bits mem all A l gs) (sym e) (aside_back A all (standing bits mem left) left.counts left.count split fs gs k i long w)
+  pub left_back : (left after : Left M K) (split : ℕ) (fs gs : List Frame) → GoneBack left after split → gs ≡ backed fs → length gs ≡ split + 1 → ((f : Frame) (rest : List Frame) → gs ≡ f ∷ rest → Stronger (A (f ∷ rest)) (A rest)) → AsideOf bits mem all A left fs → AsideOf bits mem all A after gs
+  left_back left after split fs gs b i long w k =
+      subst (λ part. Aside A all part after.counts after.count gs) (sym (same_standing left after b.behind b.masks))
+      (subst (λ counts. Aside A all (standing bits mem left) counts after.count gs) (sym b.counts)
+      (subst (λ c. Aside A all (standing bits mem left) left.counts c gs) (sym b.count) (aside_back A all (standing bits mem left) left.counts left.count split fs gs k i long w)))
 
--- ---- what the rows that stand tell of a half
+-- ---- what the rows that may be left tell of a half
 either_decides : {A B : Type 0} (a b : Bool) → Decides a A → Decides b B → Decides (a || b) (A ⊎ B)
 either_decides true b p q = ((λ _. inl (p.0 refl)), λ _. refl)
 either_decides false b p q = ((λ e. inr (q.0 e)), (λ s. ⊎_elim (λ w. absurd (false≢true (p.1 w))) (λ d. q.1 d) s))
 
-module _ {M K : Type 0} (bits : M → Numbers) (mem : K → Numbers) (low256 : (x : K) → Below 256 (mem x)) (paths cuts : List (Row K)) (n : ℕ) (fs : List Frame) (low high : State) (h : Half n fs low high) (some_paths some_cuts : Left M K)
-    (ps : AsideOf bits mem (map (meant mem) paths) (left_path n) some_paths fs) (cs : AsideOf bits mem (map (meant mem) cuts) left_cut some_cuts fs) where
-  -- whether it is closed
-  pub decides_closed : (closed : Bool) → closed ≡ (list_any (λ p. is_within p (up low)) (standing bits mem some_paths some_paths.count) || list_any (λ c. is_apart c (up high)) (standing bits mem some_cuts some_cuts.count))
-      → Decides closed (Works (map (meant mem) paths) (up low) ⊎ Fails (map (meant mem) cuts) (up high))
-  decides_closed closed e =
-      let p : Numbers → Bool = λ r. is_within r (up low) in
-      let q : Numbers → Bool = λ r. is_apart r (up high) in
-      let works = decides_works (meant mem) paths (λ x. low256 x.set) (up low) (list_any p (standing bits mem some_paths some_paths.count)) (any_all ps.here p (path_up n fs low high h) ∙ any_map p (meant mem) paths) in
-      let fails = decides_fails (meant mem) cuts (λ x. low256 x.set) (up high) (list_any q (standing bits mem some_cuts some_cuts.count)) (any_all cs.here q (cut_down n fs low high h) ∙ any_map q (meant mem) cuts) in
-      subst (λ b. Decides b (Works (map (meant mem) paths) (up low) ⊎ Fails (map (meant mem) cuts) (up high))) (sym e) (either_decides _ _ works fails)
+module _ {M K : Type 0} {bits : M → Numbers} {mem : K → Numbers} {n : ℕ} {ps cs : List Numbers} {s : Search} {paths cuts : Left M K} (k : Known bits mem n ps cs s paths cuts) where
+  pub some_up : (b : Bool) → b ≡ list_any (λ p. is_within p (up s.low)) (standing bits mem paths paths.count) → Decides b (Works ps (up s.low))
+  some_up b e = decides_works ps k.low_paths (up s.low) b (e ∙ any_all k.paths.here _ (path_up n (opened s.splits) s.low s.high k.stands))
 
-  -- whether a path is up in the greatest state, or a cut down in the least
-  pub decides_path : (left : Bool) → left ≡ list_any (λ p. is_within p (up high)) (standing bits mem some_paths some_paths.count) → Decides left (Works (map (meant mem) paths) (up high))
-  decides_path left e =
-      let p : Numbers → Bool = λ r. is_within r (up high) in
-      decides_works (meant mem) paths (λ x. low256 x.set) (up high) left (e ∙ any_all ps.here p (path_there n fs low high h) ∙ any_map p (meant mem) paths)
+  pub some_down : (b : Bool) → b ≡ list_any (λ c. is_apart c (up s.high)) (standing bits mem cuts cuts.count) → Decides b (Fails cs (up s.high))
+  some_down b e = decides_fails cs k.low_cuts (up s.high) b (e ∙ any_all k.cuts.here _ (cut_down n (opened s.splits) s.low s.high k.stands))
 
-  pub decides_cut : (left : Bool) → left ≡ list_any (λ c. is_apart c (up low)) (standing bits mem some_cuts some_cuts.count) → Decides left (Fails (map (meant mem) cuts) (up low))
-  decides_cut left e =
-      let q : Numbers → Bool = λ r. is_apart r (up low) in
-      decides_fails (meant mem) cuts (λ x. low256 x.set) (up low) left (e ∙ any_all cs.here q (cut_there n fs low high h) ∙ any_map q (meant mem) cuts)
+  pub is_closed : (b : Bool) → b ≡ (list_any (λ p. is_within p (up s.low)) (standing bits mem paths paths.count) || list_any (λ c. is_apart c (up s.high)) (standing bits mem cuts cuts.count)) → Decides b (Works ps (up s.low) ⊎ Fails cs (up s.high))
+  is_closed b e = subst (λ a. Decides a (Works ps (up s.low) ⊎ Fails cs (up s.high))) (sym e) (either_decides _ _ (some_up _ refl) (some_down _ refl))
+
+  pub path_left : (b : Bool) → b ≡ list_any (λ p. is_within p (up s.high)) (standing bits mem paths paths.count) → Decides b (Works ps (up s.high))
+  path_left b e = decides_works ps k.low_paths (up s.high) b (e ∙ any_all k.paths.here _ (path_there n (opened s.splits) s.low s.high k.stands))
+
+  pub cut_left : (b : Bool) → b ≡ list_any (λ c. is_apart c (up s.low)) (standing bits mem cuts cuts.count) → Decides b (Fails cs (up s.low))
+  cut_left b e = decides_fails cs k.low_cuts (up s.low) b (e ∙ any_all k.cuts.here _ (cut_there n (opened s.splits) s.low s.high k.stands))
+
+  pub paths_sifted : (after : Left M K) → Sifted bits mem (λ p. is_within p (up s.high)) paths after → Known bits mem n ps cs s after cuts
+  paths_sifted after t = record {
+    stands = k.stands;
+    low_paths = k.low_paths;
+    low_cuts = k.low_cuts;
+    paths = left_sifted bits mem ps (left_path n) _ paths after (opened s.splits) t (path_here n (opened s.splits) s.low s.high k.stands) k.paths;
+    cuts = k.cuts;
+  }
+
+  pub cuts_sifted : (after : Left M K) → Sifted bits mem (λ c. is_apart c (up s.low)) cuts after → Known bits mem n ps cs s paths after
+  cuts_sifted after t = record {
+    stands = k.stands;
+    low_paths = k.low_paths;
+    low_cuts = k.low_cuts;
+    paths = k.paths;
+    cuts = left_sifted bits mem cs left_cut _ cuts after (opened s.splits) t (cut_here n (opened s.splits) s.low s.high k.stands) k.cuts;
+  }
+
+  -- where the rows stand as they did
+  pub known_same : (paths' cuts' : Left M K) → Unmoved paths paths' → Unmoved cuts cuts' → Known bits mem n ps cs s paths' cuts'
+  known_same paths' cuts' u v = record {
+    stands = k.stands;
+    low_paths = k.low_paths;
+    low_cuts = k.low_cuts;
+    paths = left_same bits mem ps (left_path n) paths paths' (opened s.splits) u k.paths;
+    cuts = left_same bits mem cs left_cut cuts cuts' (opened s.splits) v k.cuts;
+  }
+
+  -- with one split more, for which they are kept
+  pub known_kept : (after : Search) (f : Frame) (paths' cuts' : Left M K) → Stands n after → opened after.splits ≡ f ∷ opened s.splits → paths' ≡ kept paths (length (opened s.splits)) → cuts' ≡ kept cuts (length (opened s.splits))
+      → length (opened s.splits) < length paths.counts → length (opened s.splits) < length cuts.counts → Known bits mem n ps cs after paths' cuts'
+  known_kept after f paths' cuts' st e p c few_p few_c =
+      let fresh : Fresh n (f ∷ opened s.splits) = subst (Fresh n) e st.fresh in
+      record {
+        stands = st;
+        low_paths = k.low_paths;
+        low_cuts = k.low_cuts;
+        paths = left_kept bits mem ps (left_path n) paths paths' f (opened s.splits) (opened after.splits) p e few_p (path_narrower n f (opened s.splits) fresh) k.paths;
+        cuts = left_kept bits mem cs left_cut cuts cuts' f (opened s.splits) (opened after.splits) c e few_c (cut_narrower n f (opened s.splits) fresh) k.cuts;
+      }
+
+  -- back at a split, with those that were kept for it
+  pub known_back : (after : Search) (split : ℕ) (paths' cuts' : Left M K) → Stands n after → opened after.splits ≡ backed (opened s.splits) → length (opened after.splits) ≡ split + 1 → GoneBack paths paths' split → GoneBack cuts cuts' split → Known bits mem n ps cs after paths' cuts'
+  known_back after split paths' cuts' st e long p c =
+      let fresh = λ (f : Frame) (rest : List Frame) (i : opened after.splits ≡ f ∷ rest). subst (Fresh n) i st.fresh in
+      record {
+        stands = st;
+        low_paths = k.low_paths;
+        low_cuts = k.low_cuts;
+        paths = left_back bits mem ps (left_path n) paths paths' split (opened s.splits) (opened after.splits) p e long (λ f rest i. path_narrower n f rest (fresh f rest i)) k.paths;
+        cuts = left_back bits mem cs left_cut cuts cuts' split (opened s.splits) (opened after.splits) c e long (λ f rest i. cut_narrower n f rest (fresh f rest i)) k.cuts;
+      }

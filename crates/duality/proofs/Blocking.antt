@@ -2,7 +2,7 @@
 use Rattle.std.proofs.Common.{◌≡◌, ℕ, ◌+◌, ◌-◌, ◌<◌, ◌≤◌, Bool, true, false, not, ◌&&◌, ◌==◌, cond, nat_lt, T, ◌⊎◌, List, [], ◌++◌, map, length, get_or, take, sym, refl, ap, ap₂, ◌∙◌, subst, inl, inr, arith}
 use Rattle.std.specs.Prelude.{Option, Some, None, Decides, MatchOption, is_some, unwrap_or}
 use Rattle.std.specs.List.{AllWithin, HoldsAt}
-use Rattle.std.proofs.lemmas.Bool.{cases_eq, cases_lt, eq-eqb, ne_eqb, lt-ltb, le-ltb, ltb-true, false≢true}
+use Rattle.std.proofs.lemmas.Bool.{and_right, cases_eq, cases_lt, eq-eqb, ne_eqb, lt-ltb, le-ltb, ltb-true, false≢true}
 use Rattle.std.proofs.lemmas.List.{length-map, length-take, length-append, get_or-take, get_or_append_left, get_or-append_right, get_or-append-add, get_or_past, get_or-map, take_all, take-map, map-append}
 use Rattle.sets.specs.Sets.{Numbers, nothing, Same, Apart, Lowest, NoneFrom}
 use Rattle.sets.specs.Marks.{marked}
@@ -17,10 +17,6 @@ use Rattle.duality.specs.declared.block.Block.{Block}
 use Rattle.duality.proofs.RowFacts.{at_map}
 
 -- ---- one more cut in a block
-and_off : (a b : Bool) → b ≡ false → (a && b) ≡ false
-and_off true b h = h
-and_off false b h = refl
-
 and_on : (a b : Bool) → b ≡ true → (a && b) ≡ a
 and_on true b h = h
 and_on false b h = refl
@@ -58,7 +54,7 @@ module _ (cs : List Numbers) (n : ℕ) (inside : n < length cs) (room : n < 256)
           ∙ ap (λ (t : Numbers). t i) (sym is ∙ ap (λ k. get_or cs k nothing) (sym e) ∙ sym (get_or-take (n + 1) cs j nothing (omega arith)))
       | inr d ↦
           put i j
-          ∙ ap (λ b. cond b true (column old i j)) (and_off (s i) (nat_lt n 256 && j == n) (and_off (nat_lt n 256) (j == n) (ne_eqb j n d)))
+          ∙ ap (λ b. cond b true (column old i j)) (and_right (s i) (nat_lt n 256 && j == n) (and_right (nat_lt n 256) (j == n) (ne_eqb j n d)))
           ∙ before.having i j
           ∙ ap (λ (t : Numbers). t i) (sym (others_same j d))
     ];
@@ -67,7 +63,7 @@ module _ (cs : List Numbers) (n : ℕ) (inside : n < length cs) (room : n < 256)
           ap₂ (λ a b. a && cond b true (marked p j)) (lt-ltb j 256 (omega arith)) (ap₂ (λ a b. a && b) (lt-ltb n 256 room) (eq-eqb j n e))
           ∙ sym (lt-ltb j (length (take (n + 1) cs)) (omega (arith, length-take (n + 1) cs)))
       | inr d ↦
-          ap (λ b. nat_lt j 256 && cond b true (marked p j)) (and_off (nat_lt n 256) (j == n) (ne_eqb j n d))
+          ap (λ b. nat_lt j 256 && cond b true (marked p j)) (and_right (nat_lt n 256) (j == n) (ne_eqb j n d))
           ∙ before.all j
           ∙ sym (others_below j d)
     ];
@@ -115,21 +111,21 @@ found_place f xs P None all = λ i lt. let l : i < length xs = simp length-map a
 found_place f xs P (Some i) h = (simp length-map h.0, at_map f xs P i h.0 h.1)
 
 -- ---- cuts in two parts
-pub fails_front : (xs ys : List Numbers) (s : Numbers) → Fails xs s → Fails (xs ++ ys) s
+fails_front : (xs ys : List Numbers) (s : Numbers) → Fails xs s → Fails (xs ++ ys) s
 fails_front xs ys s w = record {
   row = w.row;
   there = omega (arith, w.there, length-append xs ys);
   down = subst (λ (c : Numbers). Apart c s) (sym (get_or_append_left xs ys nothing w.row w.there)) w.down;
 }
 
-pub fails_behind : (xs ys : List Numbers) (s : Numbers) → Fails ys s → Fails (xs ++ ys) s
+fails_behind : (xs ys : List Numbers) (s : Numbers) → Fails ys s → Fails (xs ++ ys) s
 fails_behind xs ys s w = record {
   row = length xs + w.row;
   there = omega (arith, w.there, length-append xs ys);
   down = subst (λ (c : Numbers). Apart c s) (sym (get_or-append-add xs ys w.row nothing)) w.down;
 }
 
-pub fails_parts : (xs ys : List Numbers) (s : Numbers) → (Fails xs s → ⊥) → Fails (xs ++ ys) s → Fails ys s
+fails_parts : (xs ys : List Numbers) (s : Numbers) → (Fails xs s → ⊥) → Fails (xs ++ ys) s → Fails ys s
 fails_parts xs ys s never w = elim (cases_lt w.row (length xs)) [
   | inl l ↦ absurd (never (record { row = w.row; there = l; down = subst (λ (c : Numbers). Apart c s) (get_or_append_left xs ys nothing w.row l) w.down }))
   | inr h ↦
@@ -151,7 +147,7 @@ pub held_none : (ps cs : List Numbers) (first : ℕ) → first ≡ length ps →
 held_none ps cs first e = record { inside = omega arith; within = λ p w. w; none = λ _ i lt w. w; found = λ lt. absurd (omega arith) }
 
 -- one block more
-pub held_more : (ps cs front behind : List Numbers) (first : ℕ) (o : Option ℕ) (next : ℕ)
+held_more : (ps cs front behind : List Numbers) (first : ℕ) (o : Option ℕ) (next : ℕ)
     → MatchOption o (EachRow (take first ps) (λ p. Fails front p → ⊥)) (λ i. (i < length (take first ps)) × Fails front (get_or (take first ps) i nothing))
     → next ≡ unwrap_or o first → Held ps cs (front ++ behind) first → Held ps cs behind next
 held_more ps cs front behind first None next each e h = record {
@@ -172,7 +168,7 @@ held_more ps cs front behind first (Some i) next is e h =
     }
 
 -- no cut is left
-pub no_fails : (s : Numbers) → Fails [] s → ⊥
+no_fails : (s : Numbers) → Fails [] s → ⊥
 no_fails s w = omega (arith, w.there)
 
 -- ---- a few paths, and the others
@@ -184,14 +180,14 @@ module _ {X : Type 0} (f : X → Numbers) (few others : List X) where
     means = ap (λ (l : List Numbers). get_or l r.row nothing) (map-append f few others) ∙ get_or_append_left (map f few) (map f others) nothing r.row r.there ∙ r.means;
   }
 
-  pub row_of_others : (x : X) → IsRow f others x → IsRow f (few ++ others) x
+  row_of_others : (x : X) → IsRow f others x → IsRow f (few ++ others) x
   row_of_others x r = record {
     row = length (map f few) + r.row;
     there = simp map-append (omega (arith, r.there, length-append (map f few) (map f others)));
     means = ap (λ (l : List Numbers). get_or l (length (map f few) + r.row) nothing) (map-append f few others) ∙ get_or-append-add (map f few) (map f others) r.row nothing ∙ r.means;
   }
 
-  pub each_both : (P : Numbers → Type 0) → EachRow (map f few) P → EachRow (map f others) P → EachRow (map f (few ++ others)) P
+  each_both : (P : Numbers → Type 0) → EachRow (map f few) P → EachRow (map f others) P → EachRow (map f (few ++ others)) P
   each_both P a b = subst (λ (l : List Numbers). EachRow l P) (sym (map-append f few others)) (λ i lt. go i (omega (arith, lt, length-append (map f few) (map f others))) (cases_lt i (length (map f few)))) where
     go : (i : ℕ) → i < length (map f few) + length (map f others) → (i < length (map f few)) ⊎ (length (map f few) ≤ i) → P (get_or (map f few ++ map f others) i nothing)
     go i lt (inl l) = subst P (sym (get_or_append_left (map f few) (map f others) nothing i l)) (a i l)
@@ -207,6 +203,9 @@ held_next f others front behind rest cs first o next parts is e h =
     (subst (λ (l : List Numbers). Held (map f others) cs l first) (sym (ap (map f) parts) ∙ map-append f front behind) h)
 
 -- no cut is left: the path at `first`, or none
+pub held_few : {X : Type 0} (f : X → Numbers) (few others : List X) (cs : List Numbers) → EachRow (map f few) (λ p. Fails cs p → ⊥) → others ≡ [] → EachRow (map f (few ++ others)) (λ p. Fails cs p → ⊥)
+held_few f few others cs each none = each_both f few others (λ p. Fails cs p → ⊥) each (λ i lt. absurd (omega (arith, ap (λ l. length (map f l)) none)))
+
 pub held_found : {X A : Type 0} (f : X → Numbers) (v : A → X) (few others : List X) (cs : List Numbers) (first : ℕ) (o : Option A) → EachRow (map f few) (λ p. Fails cs p → ⊥) → Held (map f others) cs [] first
     → MatchOption o (length others ≤ first) (λ a. (first < length others) × HoldsAt (λ y. v a ≡ y) others first)
     → MatchOption o (EachRow (map f (few ++ others)) (λ p. Fails cs p → ⊥)) (λ a. IsRow f (few ++ others) (v a) × Fails cs (f (v a)))

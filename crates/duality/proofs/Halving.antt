@@ -13,7 +13,7 @@ over true b c x = refl
 over false b c x = refl
 
 -- a mark that is put where it stands
-kept_mark : (t : Numbers) (i j : ℕ) (b : Bool) → t i ≡ b → cond (eqb j i) b (t j) ≡ t j
+pub kept_mark : (t : Numbers) (i j : ℕ) (b : Bool) → t i ≡ b → cond (eqb j i) b (t j) ≡ t j
 kept_mark t i j b e =
     cond_both (eqb j i) b (t j) (λ x. x ≡ t j) (λ h. sym e ∙ ap t (sym (eqb-true j i h))) (λ _. refl)
 

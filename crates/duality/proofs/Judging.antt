@@ -23,11 +23,11 @@ pub not_answered : (number : ℕ) (values : List ℕ) → ◌≡◌ {A = Reply (
 not_answered number values e = let z : ◌≡◌ {A = ℕ} 0 1 = cc in omega arith
 
 -- every cut meets every path
-abbrev pub AllMeet : List Numbers → List Numbers → Type 0
+abbrev AllMeet : List Numbers → List Numbers → Type 0
 AllMeet ps cs = EachRow ps (λ p. Fails cs p → ⊥)
 
 -- then no state is doubled
-pub never_doubled : (ps cs : List Numbers) → AllMeet ps cs → (s : Numbers) → Works ps s → Fails cs s → ⊥
+never_doubled : (ps cs : List Numbers) → AllMeet ps cs → (s : Numbers) → Works ps s → Fails cs s → ⊥
 never_doubled ps cs meet s w f = meet w.row w.there (record { row = f.row; there = f.there; down = λ k m p. f.down k m (w.up k p) })
 
 up_below : (n : ℕ) (s : State) → s.count ≡ n → Below n (up s)
@@ -48,14 +48,14 @@ module _ (n : ℕ) (ps cs : List Numbers) where
     both = λ t b h. tt;
   }
 
-  pub audited_miss : (s : State) → MissedState n ps cs s → AllMeet ps cs → Audited n ps cs (Miss s)
+  audited_miss : (s : State) → MissedState n ps cs s → AllMeet ps cs → Audited n ps cs (Miss s)
   audited_miss s m meet = record {
     says = m;
     same = λ same. absurd (⊎_elim m.1.0 m.1.1 (same.covered (up s) (up_below n s m.0)));
     both = λ t b h. never_doubled ps cs meet t h.0 h.1;
   }
 
-  pub audited_same : AllCovered n ps cs → AllMeet ps cs → Audited n ps cs Same
+  audited_same : AllCovered n ps cs → AllMeet ps cs → Audited n ps cs Same
   audited_same all meet = record {
     says = record { covered = all; never_both = λ s b. never_doubled ps cs meet s };
     same = λ same. refl;

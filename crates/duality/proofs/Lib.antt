@@ -2,6 +2,7 @@ pub mod RowFacts
 pub mod Tallies
 pub mod Planes
 pub mod Masking
+pub mod Swapping
 pub mod Sifting
 pub mod Stacking
 pub mod Halving

@@ -1,8 +1,8 @@
 -- Counts in planes of bits.
-use Rattle.std.proofs.Common.{◌≡◌, ℕ, zero, suc, ◌+◌, ◌*◌, ◌^◌, ◌<◌, ◌≤◌, Bool, true, false, ◌&&◌, T, List, [], ◌∷◌, length, get_or, set, take, drop, ◌++◌, sym, refl, ap, ap₂, ◌∙◌, subst, inl, inr, arith, mul_assoc}
+use Rattle.std.proofs.Common.{◌≡◌, ℕ, zero, suc, ◌+◌, ◌*◌, ◌^◌, ◌<◌, ◌≤◌, Bool, true, false, ◌&&◌, ◌||◌, T, List, [], ◌∷◌, length, get_or, set, take, drop, ◌++◌, sym, refl, ap, ap₂, ◌∙◌, subst, inl, inr, arith, add-one, mul_assoc}
 use Rattle.std.proofs.Math.Nat.{pow-succ'}
-use Rattle.std.proofs.lemmas.List.{take_more_set}
-use Rattle.std.proofs.lemmas.Bool.{cases_Bool, cases_lt}
+use Rattle.std.proofs.lemmas.List.{take_more_set, take-set, length-set, get_or-set_same}
+use Rattle.std.proofs.lemmas.Bool.{cases_Bool, cases_lt, true≢false}
 use Rattle.sets.specs.Sets.{Numbers, nothing, Same, one}
 use Rattle.sets.specs.Truth.{holds_true, fails_false, and_T, T_and}
 use Rattle.sets.specs.Masks.{unlike}
@@ -17,6 +17,18 @@ two_bits m false false = omega arith
 
 doubled : (p n : ℕ) → 2 ^ (p + 1) * n ≡ 2 * (2 ^ p * n)
 doubled p n = ap (λ q. 2 ^ q * n) (omega arith) ∙ ap (λ x. x * n) (pow-succ' 2 p) ∙ mul_assoc 2 (2 ^ p) n
+
+neither : (a b : Bool) → (a || b) ≡ false → (a ≡ false) × (b ≡ false)
+neither true b e = absurd (true≢false e)
+neither false b e = (refl, e)
+
+turned_bit : (m : ℕ) (b : Bool) → m * one (unlike b true) + m * one b ≡ m
+turned_bit m true = omega arith
+turned_bit m false = omega arith
+
+unlike_false : (b : Bool) → unlike b false ≡ b
+unlike_false true = refl
+unlike_false false = refl
 
 -- ---- one plane put in place of another
 module _ {X : Type 0} (bits : X → Numbers) where
@@ -72,12 +84,68 @@ module _ {X : Type 0} (bits : X → Numbers) where
   pub counted_emptied : (ps : List X) (p : ℕ) (x : X) (k : ℕ) → p < length ps → counted bits (take p ps) k ≡ 0 → bits x k ≡ false → counted bits (take (p + 1) (set ps p x)) k ≡ 0
   counted_emptied ps p x k h none off = ap (λ l. counted bits l k) (take_more_set ps p x h) ∙ counted_empty (take p ps) x k none off
 
+  -- ---- plane by plane from the lowest
+  counted_suc : (ps : List X) (p : ℕ) (d : X) (k : ℕ) → p < length ps → counted bits (take (suc p) ps) k ≡ counted bits (take p ps) k + 2 ^ p * one (bits (get_or ps p d) k)
+  unfolding counted
+  counted_suc [] p d k h = absurd (omega arith)
+  counted_suc (q ∷ ps) zero d k h = omega arith
+  counted_suc (q ∷ ps) (suc p) d k h =
+      let e : 2 ^ suc p ≡ 2 ^ (p + 1) = ap (λ n. 2 ^ n) (omega arith) in
+      let a = ap (λ m. m * one (bits (get_or ps p d) k)) e ∙ doubled p (one (bits (get_or ps p d) k)) in
+      omega (arith, counted_suc ps p d k (omega arith), a)
+
+  pub counted_to : (ps : List X) (p : ℕ) (d : X) (k : ℕ) → p < length ps → counted bits (take (p + 1) ps) k ≡ counted bits (take p ps) k + 2 ^ p * one (bits (get_or ps p d) k)
+  counted_to ps p d k h = rw add-one (counted_suc ps p d k h)
+
+  pub counted_to_set : (ps : List X) (p : ℕ) (x : X) (k : ℕ) → p < length ps → counted bits (take (p + 1) (set ps p x)) k ≡ counted bits (take p ps) k + 2 ^ p * one (bits x k)
+  counted_to_set ps p x k h =
+      counted_to (set ps p x) p x k (omega (arith, length-set ps p x))
+      ∙ ap₂ (λ (l : List X) (y : X). counted bits l k + 2 ^ p * one (bits y k)) (take-set ps p x) (get_or-set_same ps p x x h)
+
+  -- an item that is in none of the first planes, and in no other
+  pub counted_to_none : (ps : List X) (p : ℕ) (plane : X) (before : Bool) (k : ℕ) → p < length ps → plane ≡ get_or ps p plane → (before || bits plane k) ≡ false → (before ≡ false → counted bits (take p ps) k ≡ 0) → counted bits (take (p + 1) ps) k ≡ 0
+  counted_to_none ps p plane before k h is none e =
+      let off = neither before (bits plane k) none in
+      let a = counted_to ps p plane k h in
+      let b : 2 ^ p * one (bits (get_or ps p plane) k) ≡ 2 ^ p * 0 = ap (λ (y : X). 2 ^ p * one (bits y k)) (sym is) ∙ ap (λ c. 2 ^ p * one c) off.1 in
+      omega (arith, a, b, e off.0)
+
+  -- a plane turned where the items are
+  pub turned_plane : (ps qs : List X) (p : ℕ) (plane items new : X) (k : ℕ) → p < length ps → p < length qs → plane ≡ get_or ps p plane → get_or ps p plane ≡ get_or qs p plane → bits new k ≡ unlike (bits plane k) (bits items k) → bits items k ≡ true
+      → counted bits (take p ps) k + counted bits (take p qs) k + 1 ≡ 2 ^ p → counted bits (take (p + 1) (set ps p new)) k + counted bits (take (p + 1) qs) k + 1 ≡ 2 ^ (p + 1)
+  turned_plane ps qs p plane items new k hp hq is same x on e =
+      let m = 2 ^ p in
+      let a = counted_to_set ps p new k hp in
+      let b = counted_to qs p plane k hq in
+      let v : m * one (bits (get_or qs p plane) k) ≡ m * one (bits plane k) = ap (λ y. m * one (bits y k)) (sym same ∙ sym is) in
+      let y : m * one (bits new k) ≡ m * one (unlike (bits plane k) true) = ap (λ c. m * one c) (x ∙ ap (unlike (bits plane k)) on) in
+      let twice : 2 ^ (p + 1) ≡ 2 * 2 ^ p = ap (λ q. 2 ^ q) (omega arith) ∙ pow-succ' 2 p in
+      omega (arith, a, b, v, y, e, turned_bit m (bits plane k), twice)
+
+  pub kept_plane : (ps qs : List X) (p : ℕ) (plane items new : X) (k : ℕ) → p < length ps → p < length qs → plane ≡ get_or ps p plane → get_or ps p plane ≡ get_or qs p plane → bits new k ≡ unlike (bits plane k) (bits items k) → bits items k ≡ false
+      → counted bits (take p ps) k ≡ counted bits (take p qs) k → counted bits (take (p + 1) (set ps p new)) k ≡ counted bits (take (p + 1) qs) k
+  kept_plane ps qs p plane items new k hp hq is same x off e =
+      let m = 2 ^ p in
+      let a = counted_to_set ps p new k hp in
+      let b = counted_to qs p plane k hq in
+      let v : m * one (bits (get_or qs p plane) k) ≡ m * one (bits plane k) = ap (λ y. m * one (bits y k)) (sym same ∙ sym is) in
+      let y : m * one (bits new k) ≡ m * one (bits plane k) = ap (λ c. m * one c) (x ∙ ap (unlike (bits plane k)) off ∙ unlike_false (bits plane k)) in
+      omega (arith, a, b, v, y, e)
+
   -- ---- plane by plane from the highest
   pub counted_above : (ps : List X) (p : ℕ) (d : X) (k : ℕ) → p < length ps → counted bits (drop p ps) k ≡ one (bits (get_or ps p d) k) + 2 * counted bits (drop (suc p) ps) k
   unfolding counted
   counted_above [] p d k h = absurd (omega arith)
   counted_above (q ∷ ps) zero d k h = refl
   counted_above (q ∷ ps) (suc p) d k h = counted_above ps p d k (omega arith)
+
+  -- no plane from p on has an item whose count is below 2 ^ p
+  pub counted_high : (ps : List X) (p k : ℕ) → counted bits ps k < 2 ^ p → counted bits (drop p ps) k ≡ 0
+  unfolding counted
+  counted_high [] zero k h = refl
+  counted_high [] (suc p) k h = refl
+  counted_high (q ∷ ps) zero k h = omega (arith, h)
+  counted_high (q ∷ ps) (suc p) k h = counted_high ps p k (omega (arith, h, pow-succ' 2 p))
 
   pub counted_none : (ps : List X) (p k : ℕ) → length ps ≤ p → counted bits (drop p ps) k ≡ 0
   unfolding counted

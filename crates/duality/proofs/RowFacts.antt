@@ -1,4 +1,4 @@
--- The rows of a list by their places.
+-- The rows of a list by their places, and tests of what they mean.
 use Rattle.std.proofs.Common.{◌≡◌, ℕ, zero, suc, ◌<◌, ◌≤◌, Bool, true, false, ◌||◌, List, [], ◌∷◌, map, length, get_or, sym, refl, ap, ◌∙◌, subst, arith}
 use Rattle.std.specs.Prelude.{Option, Some, None, Decides, MatchOption}
 use Rattle.std.specs.List.{list_any, AllWithin, HoldsAt}
@@ -31,29 +31,32 @@ pub tested_apart : (r s : Numbers) → Below 256 r → (b : Bool) → Decides b 
 unfolding is_apart
 tested_apart r s low b d = same_from_decides (apart_below 256 r s) b (decides_apart 256 r s low) d
 
--- ---- what `any` finds among the rows, by a test of what they mean
+-- ---- what `any` finds among the rows
+pub any_map : {X Y : Type 0} (p : Y → Bool) (f : X → Y) (xs : List X) → list_any p (map f xs) ≡ list_any (λ x. p (f x)) xs
+any_map p f [] = refl
+any_map p f (x ∷ xs) = ap (λ b. p (f x) || b) (any_map p f xs)
 
--- one of the rows passes
-pub record Passing {X : Type 0} (f : X → Numbers) (xs : List X) (test : Numbers → Bool) : Type 0 where
-  pub row : ℕ
-  pub there : row < length (map f xs)
-  pub passes : test (get_or (map f xs) row nothing) ≡ true
+-- one of the rows passes the test
+record Passing (rows : List Numbers) (test : Numbers → Bool) : Type 0 where
+  row : ℕ
+  there : row < length rows
+  passes : test (get_or rows row nothing) ≡ true
 
-passing_more : {X : Type 0} {f : X → Numbers} {x : X} {xs : List X} {test : Numbers → Bool} → Passing f xs test → Passing f (x ∷ xs) test
+passing_more : {r : Numbers} {rows : List Numbers} {test : Numbers → Bool} → Passing rows test → Passing (r ∷ rows) test
 passing_more p = record { row = suc p.row; there = omega (arith, p.there); passes = p.passes }
 
-passing_rest : {X : Type 0} (f : X → Numbers) (x : X) (xs : List X) (test : Numbers → Bool) → test (f x) ≡ false → Passing f (x ∷ xs) test → Passing f xs test
-passing_rest f x xs test e p = go p.row p.there p.passes where
-  go : (i : ℕ) → i < suc (length (map f xs)) → test (get_or (f x ∷ map f xs) i nothing) ≡ true → Passing f xs test
+passing_rest : (r : Numbers) (rows : List Numbers) (test : Numbers → Bool) → test r ≡ false → Passing (r ∷ rows) test → Passing rows test
+passing_rest r rows test e p = go p.row p.there p.passes where
+  go : (i : ℕ) → i < suc (length rows) → test (get_or (r ∷ rows) i nothing) ≡ true → Passing rows test
   go zero lt h = absurd (false≢true (sym e ∙ h))
   go (suc i) lt h = record { row = i; there = omega arith; passes = h }
 
-pub decides_any : {X : Type 0} (f : X → Numbers) (xs : List X) (test : Numbers → Bool) → Decides (list_any (λ x. test (f x)) xs) (Passing f xs test)
-decides_any f [] test = ((λ e. absurd (false≢true e)), λ p. absurd (omega (arith, p.there)))
-decides_any f (x ∷ xs) test = go (decides_any f xs test) (test (f x)) refl where
-  go : Decides (list_any (λ y. test (f y)) xs) (Passing f xs test) → (b : Bool) → test (f x) ≡ b → Decides (b || list_any (λ y. test (f y)) xs) (Passing f (x ∷ xs) test)
+decides_any : (rows : List Numbers) (test : Numbers → Bool) → Decides (list_any test rows) (Passing rows test)
+decides_any [] test = ((λ e. absurd (false≢true e)), λ p. absurd (omega (arith, p.there)))
+decides_any (r ∷ rows) test = go (decides_any rows test) (test r) refl where
+  go : Decides (list_any test rows) (Passing rows test) → (b : Bool) → test r ≡ b → Decides (b || list_any test rows) (Passing (r ∷ rows) test)
   go d true e = ((λ _. record { row = 0; there = omega arith; passes = e }), λ _. refl)
-  go d false e = ((λ h. passing_more (d.0 h)), λ p. d.1 (passing_rest f x xs test e p))
+  go d false e = ((λ h. passing_more (d.0 h)), λ p. d.1 (passing_rest r rows test e p))
 
 -- rows of a kind lie below 256
 pub rows_below : {X : Type 0} (mem : X → Numbers) → ((x : X) → Below 256 (mem x)) → (xs : List X) → EachRow (map mem xs) (Below 256)
@@ -61,24 +64,21 @@ rows_below mem low [] i h = absurd (omega arith)
 rows_below mem low (x ∷ xs) zero h = low x
 rows_below mem low (x ∷ xs) (suc i) h = rows_below mem low xs i (omega arith)
 
-module _ {X : Type 0} (f : X → Numbers) (xs : List X) (low : (x : X) → Below 256 (f x)) (s : Numbers) where
-  low_at : (i : ℕ) → i < length (map f xs) → Below 256 (get_or (map f xs) i nothing)
-  low_at i lt = rows_below f low xs i lt
-
-  pub decides_works : (r : Bool) → r ≡ list_any (λ x. is_within (f x) s) xs → Decides r (Works (map f xs) s)
+module _ (rows : List Numbers) (low : EachRow rows (Below 256)) (s : Numbers) where
+  pub decides_works : (r : Bool) → r ≡ list_any (λ p. is_within p s) rows → Decides r (Works rows s)
   unfolding is_within
   decides_works r e =
-      let d = subst (λ (b : Bool). Decides b (Passing f xs (λ v. is_within v s))) (sym e) (decides_any f xs (λ v. is_within v s)) in (
-        (λ e. let p = d.0 e in record { row = p.row; there = p.there; up = (decides_within 256 _ s (low_at p.row p.there)).0 p.passes }),
-        λ w. d.1 (record { row = w.row; there = w.there; passes = (decides_within 256 _ s (low_at w.row w.there)).1 w.up }),
+      let d = subst (λ (b : Bool). Decides b (Passing rows (λ p. is_within p s))) (sym e) (decides_any rows (λ p. is_within p s)) in (
+        (λ e. let p = d.0 e in record { row = p.row; there = p.there; up = (decides_within 256 _ s (low p.row p.there)).0 p.passes }),
+        λ w. d.1 (record { row = w.row; there = w.there; passes = (decides_within 256 _ s (low w.row w.there)).1 w.up }),
       )
 
-  pub decides_fails : (r : Bool) → r ≡ list_any (λ x. is_apart (f x) s) xs → Decides r (Fails (map f xs) s)
+  pub decides_fails : (r : Bool) → r ≡ list_any (λ c. is_apart c s) rows → Decides r (Fails rows s)
   unfolding is_apart
   decides_fails r e =
-      let d = subst (λ (b : Bool). Decides b (Passing f xs (λ v. is_apart v s))) (sym e) (decides_any f xs (λ v. is_apart v s)) in (
-        (λ e. let p = d.0 e in record { row = p.row; there = p.there; down = (decides_apart 256 _ s (low_at p.row p.there)).0 p.passes }),
-        λ w. d.1 (record { row = w.row; there = w.there; passes = (decides_apart 256 _ s (low_at w.row w.there)).1 w.down }),
+      let d = subst (λ (b : Bool). Decides b (Passing rows (λ c. is_apart c s))) (sym e) (decides_any rows (λ c. is_apart c s)) in (
+        (λ e. let p = d.0 e in record { row = p.row; there = p.there; down = (decides_apart 256 _ s (low p.row p.there)).0 p.passes }),
+        λ w. d.1 (record { row = w.row; there = w.there; passes = (decides_apart 256 _ s (low w.row w.there)).1 w.down }),
       )
 
 -- ---- what `find` finds among the rows

@@ -1,5 +1,6 @@
 -- The rows that may be left, before and after some are dropped.
-use Rattle.std.proofs.Common.{◌≡◌, ℕ, suc, nat_lt, ◌+◌, ◌-◌, ◌<◌, ◌≤◌, Bool, true, false, cond, ◌||◌, List, [], ◌∷◌, ◌++◌, map, length, get_or, take, drop, filter, replicate, sym, refl, ap, ◌∙◌, subst, arith}
+use Rattle.std.proofs.Common.{◌≡◌, ℕ, suc, nat_lt, ◌+◌, ◌-◌, ◌<◌, ◌≤◌, Bool, true, false, cond, ◌||◌, List, [], ◌∷◌, ◌++◌, map, length, get_or, take, drop, filter, replicate, sym, refl, ap, ap₂, ◌∙◌, subst, arith}
+use Rattle.std.specs.Prelude.{Option, Some, None, MatchOption}
 use Rattle.std.specs.List.{All, count_by, sum_by, list_any}
 use Rattle.std.specs.List.Sorted.{IsPermutation}
 use Rattle.std.proofs.lemmas.Bool.{true≢false, lt-ltb}
@@ -12,8 +13,11 @@ use Rattle.sets.specs.Sets.{Numbers, nothing}
 use Rattle.systems.specs.Systems.{EachRow}
 use Rattle.tables.specs.Memory.{meant}
 use Rattle.tables.specs.declared.row.Row.{Row}
-use Rattle.duality.specs.Remaining.{Alike, Stronger, any_row, standing, Fits, Sifted}
+use Rattle.duality.specs.Shares.{Tallied, counted, having}
+use Rattle.duality.specs.Remaining.{Alike, Stronger, any_row, standing, left_masks, Counted, Fits, Sifted, Unmoved, kept}
 use Rattle.duality.specs.declared.left.Left.{Left}
+use Rattle.duality.proofs.RowFacts.{any_map}
+use Rattle.duality.proofs.Tallies.{having_split, having_moved}
 
 -- ---- lists in which the same rows pass
 module _ {test : Numbers → Bool} where
@@ -51,10 +55,6 @@ module _ {test : Numbers → Bool} where
 pub alike_under : {test other : Numbers → Bool} {xs ys : List Numbers} → Stronger other test → Alike test xs ys → Alike other xs ys
 alike_under w h = record { alike = λ q s. h.alike q (λ r e. w r (s r e)) }
 
-pub any_map : {X Y : Type 0} (p : Y → Bool) (f : X → Y) (xs : List X) → list_any p (map f xs) ≡ list_any (λ x. p (f x)) xs
-any_map p f [] = refl
-any_map p f (x ∷ xs) = ap (λ b. p (f x) || b) (any_map p f xs)
-
 -- what passes among the masks in question and the rows that have none
 pub any_standing : {M K : Type 0} (test : Numbers → Bool) (bits : M → Numbers) (mem : K → Numbers) (left : Left M K) (masks : List M) (behind : List (Row K)) → masks ≡ take left.count left.masks.now → behind ≡ left.behind.now
     → list_any test (standing bits mem left left.count) ≡ (list_any (λ x. test (meant mem x)) behind || list_any (λ m. test (bits m)) masks)
@@ -78,13 +78,69 @@ standing_all bits mem left first rows e i all =
     (subst (λ ys. Alike any_row (map (meant mem) first ++ map (meant mem) behind) (map (meant mem) behind ++ ys)) (sym taken)
     (alike_moved (IsPermutation-append_comm (map (meant mem) first) (map (meant mem) behind))))
 
-pub fits_all : {M K : Type 0} (left : Left M K) (n : ℕ) → left.count ≡ n → length left.masks.now ≡ n → n ≤ 4096 → left.counts ≡ replicate 256 n → Fits left
-fits_all left n count long few counts = record {
+pub fits_all : {M K : Type 0} (bits : M → Numbers) (left : Left M K) (n : ℕ) → left.count ≡ n → length left.masks.now ≡ n → n ≤ 4096 → left.counts ≡ replicate 256 n → length left.planes.now ≡ 13 → left.tallied ≡ None → Fits bits left
+fits_all bits left n count long few counts planes not_yet = record {
   most = omega (arith, long, few);
   inside = omega (arith, long, count);
   long = ap length counts ∙ length-replicate 256 n;
   kept = subst (All (λ c. c ≤ length left.masks.now)) (sym counts) (All-replicate (λ c. c ≤ length left.masks.now) 256 n (omega (arith, long)));
+  planes = planes;
+  counted = subst (λ o. MatchOption o (Unit {0}) (Counted bits left)) (sym not_yet) tt;
 }
+
+-- the same rows, with planes that are theirs
+pub fits_tallied : {M K : Type 0} (bits : M → Numbers) (before after : Left M K) → Fits bits before → Unmoved before after → length after.planes.now ≡ 13 → after.tallied ≡ Some after.count → Tallied bits (left_masks bits before) after.planes.now → Fits bits after
+unfolding left_masks
+fits_tallied bits before after h u long now t = record {
+  most = omega (arith, ap length u.masks, h.most);
+  inside = omega (arith, ap length u.masks, u.count, h.inside);
+  long = ap length u.counts ∙ h.long;
+  kept = subst (λ masks. All (λ c. c ≤ length masks) after.counts) (sym u.masks) (subst (All (λ c. c ≤ length before.masks.now)) (sym u.counts) h.kept);
+  planes = long;
+  counted = subst (λ o. MatchOption o (Unit {0}) (Counted bits after)) (sym now) (record {
+    enough = omega arith;
+    inside = omega (arith, ap length u.masks, u.count, h.inside);
+    planes = subst (λ masks. Tallied bits (map bits (take after.count masks)) after.planes.now) (sym u.masks) (subst (λ c. Tallied bits (map bits (take c before.masks.now)) after.planes.now) (sym u.count) t);
+  });
+}
+
+-- the first masks are those that may be left and those that have dropped out since
+pub less_dropped : {M K : Type 0} (bits : M → Numbers) (left : Left M K) (first : ℕ) (planes : List M) → Fits bits left → Counted bits left first
+    → ((k : ℕ) → having (map bits (take (first - left.count) (drop left.count left.masks.now))) k ≤ counted bits left.planes.now k → counted bits planes k + having (map bits (take (first - left.count) (drop left.count left.masks.now))) k ≡ counted bits left.planes.now k)
+    → Tallied bits (left_masks bits left) planes
+unfolding left_masks
+less_dropped bits left first planes h c less = record {
+  each = λ k.
+      let masks = left.masks.now in
+      let n = left.count in
+      let e : n + (first - n) ≡ first = omega (arith, c.enough) in
+      let all = having_split bits k n (take first masks) in
+      let stay = ap (λ l. having (map bits l) k) (take-take n first masks c.enough) in
+      let dropped = ap (λ l. having (map bits l) k) (subst (λ m. drop n (take m masks) ≡ take (first - n) (drop n masks)) e (drop-take n (first - n) masks)) in
+      omega (arith, c.planes.each k, all, stay, dropped, less k (omega (arith, c.planes.each k, all, dropped)));
+}
+
+-- planes count the rows, wherever they stand
+pub tallied_moved : {M : Type 0} (bits : M → Numbers) (xs ys planes : List M) → IsPermutation xs ys → Tallied bits (map bits xs) planes → Tallied bits (map bits ys) planes
+tallied_moved bits xs ys planes moved t = record { each = λ k. t.each k ∙ having_moved (map bits xs) (map bits ys) k (IsPermutation-map bits xs ys moved) }
+
+pub counted_kept : {M K : Type 0} (bits : M → Numbers) (left : Left M K) (split : ℕ) (o : Option ℕ) → MatchOption o (Unit {0}) (Counted bits left) → MatchOption o (Unit {0}) (Counted bits (kept left split))
+counted_kept bits left split None k = tt
+counted_kept bits left split (Some first) k = record { enough = k.enough; inside = k.inside; planes = k.planes }
+
+pub now_tallied : {M K : Type 0} (bits : M → Numbers) (left : Left M K) → Fits bits left → left.tallied ≡ Some left.count → Tallied bits (left_masks bits left) left.planes.now
+unfolding left_masks
+now_tallied bits left h now =
+    let c : Counted bits left left.count = subst (λ o. MatchOption o (Unit {0}) (Counted bits left)) now h.counted in
+    c.planes
+
+pub same_masks : {M K : Type 0} (bits : M → Numbers) (before after : Left M K) → Unmoved before after → left_masks bits after ≡ left_masks bits before
+unfolding left_masks
+same_masks bits before after u = ap₂ {C = List Numbers} (λ c masks. map bits (take c masks)) u.count u.masks
+
+pub many_masks : {M K : Type 0} (bits : M → Numbers) (left : Left M K) → Fits bits left → length (left_masks bits left) ≡ left.count
+unfolding left_masks
+many_masks bits left h = length-map (take left.count left.masks.now) bits ∙ length-take-le left.count left.masks.now h.inside
 
 -- what holds of each row holds of each of the first
 pub each_first : {X : Type 0} (f : X → Numbers) (P : Numbers → Type 0) (xs ys : List X) (n : ℕ) → ys ≡ take n xs → n ≤ length xs → EachRow (map f xs) P → EachRow (map f ys) P
@@ -135,17 +191,31 @@ module _ {X : Type 0} (masks : List X) (count : ℕ) (inside : count ≤ length 
         ap (map bits) (take-append-le stay front (drop count masks) (omega (arith, length_permutation (take count masks) front moved)) ∙ kept)
         ∙ map_filter bits test (take count masks)
 
-module _ {M K : Type 0} (bits : M → Numbers) (mem : K → Numbers) (before after : Left M K) (h : Fits before) (front : List M) (moved : IsPermutation (take before.count before.masks.now) front)
-    (masks : after.masks.now ≡ front ++ drop before.count before.masks.now) (behind : after.behind ≡ before.behind) (counts : after.counts ≡ before.counts) (fewer : after.count ≤ length (take before.count before.masks.now)) where
+module _ {M K : Type 0} (bits : M → Numbers) (mem : K → Numbers) (before after : Left M K) (h : Fits bits before) (front : List M) (moved : IsPermutation (take before.count before.masks.now) front)
+    (masks : after.masks.now ≡ front ++ drop before.count before.masks.now) (behind : after.behind ≡ before.behind) (counts : after.counts ≡ before.counts) (fewer : after.count ≤ length (take before.count before.masks.now))
+    (planes : after.planes ≡ before.planes) (same : after.tallied ≡ before.tallied) where
   long : length after.masks.now ≡ length before.masks.now
   long = ap length masks ∙ as_many before.masks.now before.count h.inside front moved
 
-  pub fits_after : Fits after
+  still_counted : (o : Option ℕ) → MatchOption o (Unit {0}) (Counted bits before) → MatchOption o (Unit {0}) (Counted bits after)
+  still_counted None k = tt
+  still_counted (Some first) k = record {
+    enough = omega (arith, k.enough, fewer, length-take-le before.count before.masks.now h.inside);
+    inside = omega (arith, long, k.inside);
+    planes =
+        subst (λ (p : List M). Tallied bits (map bits (take first after.masks.now)) p) (sym (ap (λ p. p.now) planes))
+        (subst (λ (l : List M). Tallied bits (map bits (take first l)) before.planes.now) (sym masks)
+        (tallied_moved bits (take first before.masks.now) (take first (front ++ drop before.count before.masks.now)) before.planes.now (moved_to before.masks.now before.count h.inside front moved first k.enough) k.planes));
+  }
+
+  pub fits_after : Fits bits after
   fits_after = record {
     most = omega (arith, long, h.most);
     inside = omega (arith, long, h.inside, length-take-le before.count before.masks.now h.inside);
     long = ap length counts ∙ h.long;
     kept = subst (λ n. All (λ c. c ≤ n) after.counts) (sym long) (subst (All (λ c. c ≤ length before.masks.now)) (sym counts) h.kept);
+    planes = ap (λ p. length p.now) planes ∙ h.planes;
+    counted = subst (λ o. MatchOption o (Unit {0}) (Counted bits after)) (sym same) (still_counted before.tallied h.counted);
   }
 
   pub sifted_after : (test : Numbers → Bool) → take after.count front ≡ filter (λ m. test (bits m)) (take before.count before.masks.now) → Sifted bits mem test before after

@@ -8,17 +8,17 @@ pub length_stacked : (d : ℕ) (fs : List Frame) → length (stacked d fs) ≡ d
 length_stacked zero fs = refl
 length_stacked (suc d) fs = ap suc (length_stacked d fs)
 
-pub stacked_set : (d : ℕ) (fs : List Frame) (i : ℕ) (f : Frame) → d ≤ i → stacked d (set fs i f) ≡ stacked d fs
+stacked_set : (d : ℕ) (fs : List Frame) (i : ℕ) (f : Frame) → d ≤ i → stacked d (set fs i f) ≡ stacked d fs
 stacked_set zero fs i f h = refl
 stacked_set (suc d) fs i f h =
     let a : get_or (set fs i f) d no_frame ≡ get_or fs d no_frame = get_or-set_other fs i d f no_frame (omega arith) in
     let b : stacked d (set fs i f) ≡ stacked d fs = stacked_set d fs i f (omega arith) in
     cc
 
-pub stacked_more : (d : ℕ) (fs : List Frame) → stacked (d + 1) fs ≡ get_or fs d no_frame ∷ stacked d fs
+stacked_more : (d : ℕ) (fs : List Frame) → stacked (d + 1) fs ≡ get_or fs d no_frame ∷ stacked d fs
 stacked_more d fs = rw add-one
 
-pub stacked_last : (d : ℕ) (fs : List Frame) → 0 < d → stacked d fs ≡ get_or fs (d - 1) no_frame ∷ stacked (d - 1) fs
+stacked_last : (d : ℕ) (fs : List Frame) → 0 < d → stacked d fs ≡ get_or fs (d - 1) no_frame ∷ stacked (d - 1) fs
 stacked_last zero fs h = absurd (omega arith)
 stacked_last (suc d) fs h = let e : suc d - 1 ≡ d = omega arith in rw e
 

@@ -1,6 +1,7 @@
 pub mod Pairs
 pub mod Verdicts
 pub mod Shares
+pub mod Asides
 pub mod Remaining
 pub mod Halves
 pub mod Searches

@@ -4,13 +4,21 @@
 --   Behind        the rows cover all that the search has left behind
 --   AllCovered    every state of n items is covered
 --   MissedState   a state of n items that is missed
-use Rattle.std.specs.Prelude.{◌≡◌, ℕ, List}
+--   Known         the rows that may be left in the half are known, of paths and cuts that lie below 256
+--   Undecided     of a half with this least and this greatest state: a path is up in the greatest and none in the least, a cut is down in
+--                 the least and none in the greatest
+--   Found         what has come out of it
+use Rattle.std.specs.Prelude.{◌≡◌, ℕ, ◌⊎◌, List}
 use Rattle.sets.specs.Sets.{Numbers, Below}
 use Rattle.systems.specs.States.{up}
-use Rattle.systems.specs.Systems.{Missed}
+use Rattle.systems.specs.Systems.{Works, Fails, Missed, EachRow}
 use Rattle.systems.specs.declared.state.State.{State}
 use Rattle.duality.specs.Halves.{opened, Half, Settled, Covered}
+use Rattle.duality.specs.Asides.{left_path, left_cut, AsideOf}
+use Rattle.duality.specs.declared.left.Left.{Left}
 use Rattle.duality.specs.declared.search.Search.{Search}
+use Rattle.duality.specs.declared.search.Finding.{Finding}
+use Rattle.duality.specs.declared.search.Finding.TheVariants.{Closed, Open, Missed as Misses}
 
 abbrev pub Stands : ℕ → Search → Type 0
 Stands n s = Half n (opened s.splits) s.low s.high
@@ -23,3 +31,21 @@ AllCovered n ps cs = (s : Numbers) → Below n s → Covered ps cs s
 
 abbrev pub MissedState : ℕ → List Numbers → List Numbers → State → Type 0
 MissedState n ps cs s = (s.count ≡ n) × Missed ps cs (up s)
+
+pub record Known {M K : Type 0} (bits : M → Numbers) (mem : K → Numbers) (n : ℕ) (ps cs : List Numbers) (s : Search) (left_paths left_cuts : Left M K) : Type 0 where
+  pub stands : Stands n s
+  pub low_paths : EachRow ps (Below 256)
+  pub low_cuts : EachRow cs (Below 256)
+  pub paths : AsideOf bits mem ps (left_path n) left_paths (opened s.splits)
+  pub cuts : AsideOf bits mem cs left_cut left_cuts (opened s.splits)
+
+pub record Undecided (ps cs : List Numbers) (low high : Numbers) : Type 0 where
+  pub path : Works ps high
+  pub no_path : Works ps low → ⊥
+  pub cut : Fails cs low
+  pub no_cut : Fails cs high → ⊥
+
+abbrev pub Found : ℕ → List Numbers → List Numbers → Search → Finding → Type 0
+Found n ps cs s Closed = Works ps (up s.low) ⊎ Fails cs (up s.high)
+Found n ps cs s Open = Undecided ps cs (up s.low) (up s.high)
+Found n ps cs s (Misses state) = MissedState n ps cs state

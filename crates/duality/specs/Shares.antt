@@ -1,5 +1,7 @@
--- The rows that are left in a half, and the share of them that has an item. Assumes nothing.
+-- The share of some rows that has an item, and the tests of rows in a state. Assumes nothing.
 --
+--   is_within    the first set of items is within the second, as a test
+--   is_apart     the two have no common item, as a test
 --   having       how many of the rows have the item
 --   share        the larger of two fractions, of the paths that have the item and of the cuts that have it, over the
 --                common denominator: the number of paths times the number of cuts

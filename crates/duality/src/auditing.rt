@@ -1,5 +1,5 @@
 // The audit of a path table and a cut table.
-ghost use Rattle.std.specs.Prelude.{◌≡◌, ℕ, List, map, IfOk, Decides, MatchOption, MatchResult};
+ghost use Rattle.std.specs.Prelude.{◌≡◌, ℕ, List, map, IfOk, MatchOption, MatchResult};
 ghost use Rattle.sets.specs.Sets.{Numbers};
 ghost use Rattle.systems.specs.Systems.{EachRow, Fails};
 ghost use Rattle.tables.specs.Memory.{meant};
@@ -48,6 +48,9 @@ pub(crate) fn first_apart<'p, K: SetKind>(
     let (few, others) = paths.split_at(paths.len().min(4));
     if let Some(path) = few.iter().find(|path| some_apart(path, cuts)) {
         return Some(path);
+    }
+    if others.is_empty() {
+        return None;
     }
     let mut first = others.len();
     let mut rest = cuts;

@@ -40,7 +40,7 @@ impl Block {
         missed.lowest().is_some()
     }
 
-    // The first of the rows with which some cut has no common item.
+    // Some row with which some cut has no common item, if there is one.
     pub(crate) fn first_apart<K: SetKind>(&self, rows: &[Row<K>]) -> Option<usize>
         ensures { (cuts : List Numbers) → Holds cuts self.now → MatchOption result (EachRow (map (meant K.mem) rows.now) (λ p. Fails cuts p → ⊥)) (λ row. (row < length (map (meant K.mem) rows.now)) × Fails cuts (slice_index_or (map (meant K.mem) rows.now) row nothing)) }
     {

@@ -19,8 +19,8 @@ pub(crate) fn choose<M: Mask>(
     requires cuts { length cut_planes.now ≡ 13 }
     ensures { (ps cs : List Numbers) → length ps ≡ paths → length cs ≡ cuts → Tallied M.bits ps path_planes.now → Tallied M.bits cs cut_planes.now → MatchOption result (NoneFrom (M.bits items) 0) (Leads ps cs (M.bits items)) }
 {
-    let (path_count, in_paths) = most(path_planes, items);
-    let (cut_count, in_cuts) = most(cut_planes, items);
+    let (path_count, in_paths) = most(path_planes, paths, items);
+    let (cut_count, in_cuts) = most(cut_planes, cuts, items);
     let of_paths = path_count as u128 * cuts as u128;
     let of_cuts = cut_count as u128 * paths as u128;
     let leading = if of_paths > of_cuts {

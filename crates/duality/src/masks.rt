@@ -65,7 +65,7 @@ pub(crate) fn is_out<M: Mask>(row: &M, other: M) -> bool
 }
 
 // Moves the masks that pass to the front, the others behind them, and answers how many pass. (A loop by places: a lent slice has no
-// `retain`.)
+// `retain`. It has no branch, which would often be foretold wrong: a mask that does not pass is swapped with one that does not either.)
 pub(crate) fn sift<M: Mask, F: Fn(&M) -> bool>(masks: &mut [M], passes: &F) -> usize
     requires { F.IsAlwaysCallable passes.now }
     ensures moved { IsPermutation masks.old masks.new }
@@ -74,10 +74,9 @@ pub(crate) fn sift<M: Mask, F: Fn(&M) -> bool>(masks: &mut [M], passes: &F) -> u
 {
     let mut stay = 0;
     for i in 0..masks.len() {
-        if passes(&masks[i]) {
-            masks.swap(stay, i);
-            stay += 1;
-        }
+        let passed = passes(&masks[i]);
+        masks.swap(stay, i);
+        stay += usize::from(passed);
     }
     stay
 }

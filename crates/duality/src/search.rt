@@ -10,6 +10,14 @@ use systems::State;
 use tables::Row;
 use tables::table::MOST_ROWS;
 
+// Most tables have no more rows than this; memory for more masks takes longer to make.
+const FEW_ROWS: usize = 1024;
+
+// Memory for the masks of two tables, and their planes.
+const FEW_MASKS: usize = 2 * (PLANES + FEW_ROWS);
+
+const MOST_MASKS: usize = 2 * (PLANES + MOST_ROWS);
+
 // The half being tried lies from `low`, where the undecided items are down, to `high`, where they are up.
 #[derive(Clone, Copy)]
 pub struct Search {
@@ -18,17 +26,24 @@ pub struct Search {
     high: State,
 }
 
+// What comes out of a half: all its states are covered, or a state is missed, or it has to be split.
+enum Finding {
+    Closed,
+    Open,
+    Missed(State),
+}
+
 impl Search {
-    ghost use Rattle.std.specs.Prelude.{◌≡◌, ℕ, ◌+◌, ◌≤◌, not, ◌&&◌, ◌||◌, [], length, map, MatchOption};
+    ghost use Rattle.std.specs.Prelude.{◌≡◌, ℕ, ◌+◌, ◌≤◌, not, ◌&&◌, ◌||◌, List, [], length, map, MatchOption};
     ghost use Rattle.std.specs.List.{list_any};
-    ghost use Rattle.sets.specs.Sets.{Within, Below};
+    ghost use Rattle.sets.specs.Sets.{Numbers, Within, Below};
     ghost use Rattle.systems.specs.States.{up};
-    ghost use Rattle.systems.specs.Systems.{EachRow};
+    ghost use Rattle.systems.specs.Systems.{Works, Fails, EachRow};
     ghost use Rattle.tables.specs.Memory.{meant};
     ghost use Rattle.duality.specs.Halves.{opened, backed};
     ghost use Rattle.duality.specs.Shares.{Leads, is_within, is_apart};
-    ghost use Rattle.duality.specs.Remaining.{Fits, Sifted, standing, left_masks};
-    ghost use Rattle.duality.specs.Searches.{Stands, Behind, AllCovered, MissedState};
+    ghost use Rattle.duality.specs.Remaining.{Fits, Sifted, Unmoved, standing, left_masks};
+    ghost use Rattle.duality.specs.Searches.{Stands, Behind, AllCovered, MissedState, Known, Found};
 
     // A search among the states of n items, of which there are at most 256.
     pub fn new(n: usize) -> Search
@@ -49,99 +64,174 @@ impl Search {
         ensures behind { (n : ℕ) → Stands n self.old → Behind n (map (meant K.mem) paths.now) (map (meant K.mem) cuts.now) self.old → Behind n (map (meant K.mem) paths.now) (map (meant K.mem) cuts.now) self.new }
         ensures found { (n : ℕ) → Stands n self.old → MatchOption result (Behind n (map (meant K.mem) paths.now) (map (meant K.mem) cuts.now) self.old → AllCovered n (map (meant K.mem) paths.now) (map (meant K.mem) cuts.now)) (MissedState n (map (meant K.mem) paths.now) (map (meant K.mem) cuts.now)) }
     {
-        if self.low.count() <= 64 && self.high.count() <= 64 && all_low(paths) && all_low(cuts) {
-            let none = WordSet::empty();
-            let mut path_places = [none; MOST_ROWS];
-            let mut cut_places = [none; MOST_ROWS];
-            let mut path_planes = [none; PLANES];
-            let mut cut_planes = [none; PLANES];
-            self.find(
-                paths,
-                cuts,
-                &mut path_places,
-                &mut cut_places,
-                &mut path_planes,
-                &mut cut_planes,
-            )
-        } else {
-            let none = Marks::none();
-            let mut path_places = [none; MOST_ROWS];
-            let mut cut_places = [none; MOST_ROWS];
-            let mut path_planes = [none; PLANES];
-            let mut cut_planes = [none; PLANES];
-            self.find(
-                paths,
-                cuts,
-                &mut path_places,
-                &mut cut_places,
-                &mut path_planes,
-                &mut cut_planes,
-            )
+        let low = self.low.count() <= 64
+            && self.high.count() <= 64
+            && all_low(paths)
+            && all_low(cuts);
+        let few = paths.len() <= FEW_ROWS && cuts.len() <= FEW_ROWS;
+        match (low, few) {
+            (true, true) => self.find(paths, cuts, &mut [WordSet::empty(); FEW_MASKS]),
+            (true, false) => self.find(paths, cuts, &mut [WordSet::empty(); MOST_MASKS]),
+            (false, true) => self.find(paths, cuts, &mut [Marks::none(); FEW_MASKS]),
+            (false, false) => self.find(paths, cuts, &mut [Marks::none(); MOST_MASKS]),
         }
     }
 
-    // The same, in memory for masks of a kind that has room for all items.
+    // The same, in memory for masks of a kind that has room for all items. A split that an earlier call opened tells nothing of these rows:
+    // its second half is looked at as a whole.
     fn find<M: Mask, K: SetKind>(
         &mut self,
         paths: &[Row<K>],
         cuts: &[Row<K>],
-        path_places: &mut [M],
-        cut_places: &mut [M],
-        path_planes: &mut [M],
-        cut_planes: &mut [M],
+        memory: &mut [M],
     ) -> Option<State>
         requires low { self.old.low.count ≤ M.most }
         requires high { self.old.high.count ≤ M.most }
         requires paths { EachRow (map (meant K.mem) paths.now) (Below M.most) }
         requires cuts { EachRow (map (meant K.mem) cuts.now) (Below M.most) }
-        requires path_room { length path_places.old ≡ 4096 }
-        requires cut_room { length cut_places.old ≡ 4096 }
-        requires path_planes { length path_planes.old ≡ 13 }
-        requires cut_planes { length cut_planes.old ≡ 13 }
+        requires room { 26 ≤ length memory.old }
+        requires most { length memory.old ≤ 8218 }
         ensures stands { (n : ℕ) → Stands n self.old → Stands n self.new }
         ensures behind { (n : ℕ) → Stands n self.old → Behind n (map (meant K.mem) paths.now) (map (meant K.mem) cuts.now) self.old → Behind n (map (meant K.mem) paths.now) (map (meant K.mem) cuts.now) self.new }
         ensures found { (n : ℕ) → Stands n self.old → MatchOption result (Behind n (map (meant K.mem) paths.now) (map (meant K.mem) cuts.now) self.old → AllCovered n (map (meant K.mem) paths.now) (map (meant K.mem) cuts.now)) (MissedState n (map (meant K.mem) paths.now) (map (meant K.mem) cuts.now)) }
     {
-        let mut left_paths = Left::new(path_places, paths);
-        let mut left_cuts = Left::new(cut_places, cuts);
+        let (path_memory, cut_memory) = memory.split_at_mut(memory.len() / 2);
+        let mut left_paths = Left::new(path_memory, paths);
+        let mut left_cuts = Left::new(cut_memory, cuts);
+        let mut earlier = self.splits.count();
+        let mut finding = self.look(&mut left_paths, &mut left_cuts);
         'halves: loop {
-            if self.is_closed(&left_paths, &left_cuts) {
-                let split = self.back()?;
-                left_paths.go_back(split);
-                left_cuts.go_back(split);
-            } else if !self.sift_paths(&mut left_paths) {
-                return Some(self.high);
-            } else if !self.sift_cuts(&mut left_cuts) {
-                return Some(self.low);
-            } else {
-                let item = self.choose(&left_paths, &left_cuts, path_planes, cut_planes)?;
-                let split = self.splits.count();
-                self.splits.push(item)?;
-                left_paths.keep(split);
-                left_cuts.keep(split);
-                self.low.set(item, true);
+            match finding {
+                Finding::Missed(state) => return Some(state),
+                Finding::Closed => {
+                    let split = self.back()?;
+                    left_paths.go_back(split);
+                    left_cuts.go_back(split);
+                    if split < earlier {
+                        earlier = split + 1;
+                        finding = self.look(&mut left_paths, &mut left_cuts);
+                    } else {
+                        finding = self.look_down(&mut left_paths, &left_cuts);
+                    }
+                }
+                Finding::Open => {
+                    let item = self.choose(&mut left_paths, &mut left_cuts)?;
+                    let split = self.splits.count();
+                    self.splits.push(item)?;
+                    left_paths.keep(split);
+                    left_cuts.keep(split);
+                    self.low.set(item, true);
+                    finding = self.look_up(&left_paths, &mut left_cuts);
+                }
             }
         }
     }
 
-    // Whether the half being tried is closed: of the rows that may be left, a path is wholly up, or a cut wholly down.
+    // What comes out of the half, by all rows that may be left. Those drop that are left in no state of it.
+    fn look<M: Mask, K: SetKind>(
+        &self,
+        paths: &mut Left<'_, M, K>,
+        cuts: &mut Left<'_, M, K>,
+    ) -> Finding
+        requires low { self.now.low.count ≤ M.most }
+        requires high { self.now.high.count ≤ M.most }
+        requires paths { Fits M.bits paths.old }
+        requires cuts { Fits M.bits cuts.old }
+        ensures paths { Fits M.bits paths.new }
+        ensures cuts { Fits M.bits cuts.new }
+        ensures known { (n : ℕ) (ps cs : List Numbers) → Known M.bits K.mem n ps cs self.now paths.old cuts.old → Known M.bits K.mem n ps cs self.now paths.new cuts.new }
+        ensures found { (n : ℕ) (ps cs : List Numbers) → Known M.bits K.mem n ps cs self.now paths.old cuts.old → Found n ps cs self.now result }
+    {
+        if self.is_closed(paths, cuts) {
+            Finding::Closed
+        } else if !self.sift_paths(paths) {
+            Finding::Missed(self.high)
+        } else if !self.sift_cuts(cuts) {
+            Finding::Missed(self.low)
+        } else {
+            Finding::Open
+        }
+    }
+
+    // The same, once an item of a half that was open has gone up: a path may be up now, and cuts drop.
+    fn look_up<M: Mask, K: SetKind>(
+        &self,
+        paths: &Left<'_, M, K>,
+        cuts: &mut Left<'_, M, K>,
+    ) -> Finding
+        requires low { self.now.low.count ≤ M.most }
+        requires paths { Fits M.bits paths.now }
+        requires cuts { Fits M.bits cuts.old }
+        ensures cuts { Fits M.bits cuts.new }
+        ensures known { (n : ℕ) (ps cs : List Numbers) → Known M.bits K.mem n ps cs self.now paths.now cuts.old → Known M.bits K.mem n ps cs self.now paths.now cuts.new }
+        ensures found { (n : ℕ) (ps cs : List Numbers) → Known M.bits K.mem n ps cs self.now paths.now cuts.old → Works ps (up self.now.high) → (Fails cs (up self.now.high) → ⊥) → Found n ps cs self.now result }
+    {
+        if self.path_is_up(paths) {
+            Finding::Closed
+        } else if !self.sift_cuts(cuts) {
+            Finding::Missed(self.low)
+        } else {
+            Finding::Open
+        }
+    }
+
+    // The same, once the item has gone down: a cut may be down now, and paths drop.
+    fn look_down<M: Mask, K: SetKind>(
+        &self,
+        paths: &mut Left<'_, M, K>,
+        cuts: &Left<'_, M, K>,
+    ) -> Finding
+        requires high { self.now.high.count ≤ M.most }
+        requires paths { Fits M.bits paths.old }
+        requires cuts { Fits M.bits cuts.now }
+        ensures paths { Fits M.bits paths.new }
+        ensures known { (n : ℕ) (ps cs : List Numbers) → Known M.bits K.mem n ps cs self.now paths.old cuts.now → Known M.bits K.mem n ps cs self.now paths.new cuts.now }
+        ensures found { (n : ℕ) (ps cs : List Numbers) → Known M.bits K.mem n ps cs self.now paths.old cuts.now → Fails cs (up self.now.low) → (Works ps (up self.now.low) → ⊥) → Found n ps cs self.now result }
+    {
+        if self.cut_is_down(cuts) {
+            Finding::Closed
+        } else if !self.sift_paths(paths) {
+            Finding::Missed(self.high)
+        } else {
+            Finding::Open
+        }
+    }
+
+    // Whether all states of the half are covered: a path is wholly up in it, or a cut wholly down.
     fn is_closed<M: Mask, K: SetKind>(&self, paths: &Left<'_, M, K>, cuts: &Left<'_, M, K>) -> bool
         requires low { self.now.low.count ≤ M.most }
         requires high { self.now.high.count ≤ M.most }
-        requires paths { Fits paths.now }
-        requires cuts { Fits cuts.now }
+        requires paths { Fits M.bits paths.now }
+        requires cuts { Fits M.bits cuts.now }
         ensures { result ≡ (list_any (λ p. is_within p (up self.now.low)) (standing M.bits K.mem paths.now paths.now.count) || list_any (λ c. is_apart c (up self.now.high)) (standing M.bits K.mem cuts.now cuts.now.count)) }
     {
+        self.path_is_up(paths) || self.cut_is_down(cuts)
+    }
+
+    // Whether a path that may be left is wholly up in the half.
+    fn path_is_up<M: Mask, K: SetKind>(&self, paths: &Left<'_, M, K>) -> bool
+        requires low { self.now.low.count ≤ M.most }
+        requires paths { Fits M.bits paths.now }
+        ensures { result ≡ list_any (λ p. is_within p (up self.now.low)) (standing M.bits K.mem paths.now paths.now.count) }
+    {
         let low = mask_of::<M>(&self.low);
-        let high = mask_of::<M>(&self.high);
         paths.any(|row| is_in(row, low), |row| is_up(row, &self.low))
-            || cuts.any(|row| is_out(row, high), |row| is_down(row, &self.high))
+    }
+
+    // Whether a cut that may be left is wholly down in the half.
+    fn cut_is_down<M: Mask, K: SetKind>(&self, cuts: &Left<'_, M, K>) -> bool
+        requires high { self.now.high.count ≤ M.most }
+        requires cuts { Fits M.bits cuts.now }
+        ensures { result ≡ list_any (λ c. is_apart c (up self.now.high)) (standing M.bits K.mem cuts.now cuts.now.count) }
+    {
+        let high = mask_of::<M>(&self.high);
+        cuts.any(|row| is_out(row, high), |row| is_down(row, &self.high))
     }
 
     // Drops the paths that have an item down in the half, and answers whether any is left.
     fn sift_paths<M: Mask, K: SetKind>(&self, paths: &mut Left<'_, M, K>) -> bool
         requires high { self.now.high.count ≤ M.most }
-        requires paths { Fits paths.old }
+        requires paths { Fits M.bits paths.old }
         ensures sifted { Sifted M.bits K.mem (λ p. is_within p (up self.now.high)) paths.old paths.new }
         ensures left { result ≡ list_any (λ p. is_within p (up self.now.high)) (standing M.bits K.mem paths.old paths.old.count) }
     {
@@ -152,7 +242,7 @@ impl Search {
     // Drops the cuts that have an item up in the half, and answers whether any is left.
     fn sift_cuts<M: Mask, K: SetKind>(&self, cuts: &mut Left<'_, M, K>) -> bool
         requires low { self.now.low.count ≤ M.most }
-        requires cuts { Fits cuts.old }
+        requires cuts { Fits M.bits cuts.old }
         ensures sifted { Sifted M.bits K.mem (λ c. is_apart c (up self.now.low)) cuts.old cuts.new }
         ensures left { result ≡ list_any (λ c. is_apart c (up self.now.low)) (standing M.bits K.mem cuts.old cuts.old.count) }
     {
@@ -163,25 +253,29 @@ impl Search {
     // An undecided item, down in `low` and up in `high`, that stands in the largest share of the paths or of the cuts that are left.
     fn choose<M: Mask, K: SetKind>(
         &self,
-        paths: &Left<'_, M, K>,
-        cuts: &Left<'_, M, K>,
-        path_planes: &mut [M],
-        cut_planes: &mut [M],
+        paths: &mut Left<'_, M, K>,
+        cuts: &mut Left<'_, M, K>,
     ) -> Option<usize>
         requires low { self.now.low.count ≤ M.most }
         requires high { self.now.high.count ≤ M.most }
-        requires paths { Fits paths.now }
-        requires cuts { Fits cuts.now }
-        requires path_planes { length path_planes.old ≡ 13 }
-        requires cut_planes { length cut_planes.old ≡ 13 }
-        ensures chosen { MatchOption result (Within (up self.now.high) (up self.now.low)) (Leads (left_masks M.bits paths.now) (left_masks M.bits cuts.now) (λ k. up self.now.high k && not (up self.now.low k))) }
-        ensures path_planes { length path_planes.new ≡ 13 }
-        ensures cut_planes { length cut_planes.new ≡ 13 }
+        requires paths { Fits M.bits paths.old }
+        requires cuts { Fits M.bits cuts.old }
+        ensures chosen { MatchOption result (Within (up self.now.high) (up self.now.low)) (Leads (left_masks M.bits paths.old) (left_masks M.bits cuts.old) (λ k. up self.now.high k && not (up self.now.low k))) }
+        ensures paths { Fits M.bits paths.new }
+        ensures cuts { Fits M.bits cuts.new }
+        ensures same_paths { Unmoved paths.old paths.new }
+        ensures same_cuts { Unmoved cuts.old cuts.new }
     {
         let undecided = mask_of::<M>(&self.high).without(mask_of::<M>(&self.low));
-        let path_count = paths.tally(path_planes);
-        let cut_count = cuts.tally(cut_planes);
-        choose(undecided, path_count, path_planes, cut_count, cut_planes)
+        paths.tally();
+        cuts.tally();
+        choose(
+            undecided,
+            paths.count,
+            paths.planes(),
+            cuts.count,
+            cuts.planes(),
+        )
     }
 
     // Leaves a closed half: back to the last split that is in its first half, and on to its second. None if no split is.

@@ -6,10 +6,11 @@ use lib.Count.{ones, count_trailing_zeros, under, ones_cat}
 use Rattle.sets.specs.Sets.{one, count}
 use Rattle.sets.specs.Words.{bit}
 use Rattle.sets.specs.Masks.{unlike}
-use Rattle.std.proofs.lemmas.Bool.{cases_order, cases_eq, cases_lt, lt-leb, le-leb, eq-eqb, ne_eqb, eqb-true}
+use Rattle.std.proofs.lemmas.Bool.{cases_order, cases_lt, lt-leb, le-leb, eq-eqb, ne_eqb, eqb-true}
+use Rattle.std.proofs.Math.Bool.{and-true}
 use Rattle.std.proofs.lemmas.Nat.{shl-shr, shr-shr, pow-add, pow_below, mod_below, mod-pow-add, pow_pos, div-add-mod', shr_below}
 
-pub on_digits : (P : ℕ → ℕ → Type 0) → P 0 0 → P 0 1 → P 1 0 → P 1 1 → (x y : ℕ) → x < 2 → y < 2 → P x y
+on_digits : (P : ℕ → ℕ → Type 0) → P 0 0 → P 0 1 → P 1 0 → P 1 1 → (x y : ℕ) → x < 2 → y < 2 → P x y
 on_digits P a b c d zero zero hx hy = a
 on_digits P a b c d zero (suc zero) hx hy = b
 on_digits P a b c d zero (suc (suc y)) hx hy = absurd (omega arith)
@@ -33,23 +34,23 @@ bit_of_xor a b k =
     ap (λ (x : ℕ). eqb (x % 2) 1) (xor_shr a b k) ∙ ap (λ (x : ℕ). eqb x 1) (xor_mod (a / 2 ^ k) (b / 2 ^ k) 1)
     ∙ on_digits (λ x y. eqb (bit_xor x y) 1 ≡ unlike (eqb x 1) (eqb y 1)) refl refl refl refl (a / 2 ^ k % 2) (b / 2 ^ k % 2) (mod_below (a / 2 ^ k) 2 (omega arith)) (mod_below (b / 2 ^ k) 2 (omega arith))
 
-pub bit_zero : (n : ℕ) → bit n 0 ≡ eqb (n % 2) 1
+bit_zero : (n : ℕ) → bit n 0 ≡ eqb (n % 2) 1
 bit_zero n = ap (λ (x : ℕ). eqb (x % 2) 1) (div-one n)
 
-pub bit_shr : (n k j : ℕ) → bit (n / 2 ^ k) j ≡ bit n (k + j)
+bit_shr : (n k j : ℕ) → bit (n / 2 ^ k) j ≡ bit n (k + j)
 bit_shr n k j = ap (λ (x : ℕ). eqb (x % 2) 1) (shr-shr n k j)
 
-pub bit_suc : (n j : ℕ) → bit n (suc j) ≡ bit (n / 2) j
+bit_suc : (n j : ℕ) → bit n (suc j) ≡ bit (n / 2) j
 bit_suc n j = ap (bit n) (sym (one-add j)) ∙ sym (bit_shr n 1 j)
 
 -- past a number's length no bit is set
 pub bit_past : (n k : ℕ) → n < 2 ^ k → bit n k ≡ false
 bit_past n k h = ap (λ (x : ℕ). eqb (x % 2) 1) (div-eq_of_lt h)
 
-pub bit_single_same : (k : ℕ) → bit (2 ^ k) k ≡ true
+bit_single_same : (k : ℕ) → bit (2 ^ k) k ≡ true
 bit_single_same k = ap (λ (x : ℕ). eqb (x % 2) 1) (ap (λ (x : ℕ). x / 2 ^ k) (omega arith) ∙ shl-shr 1 k)
 
-pub bit_single_below : (j d : ℕ) → bit (2 ^ (suc d + j)) j ≡ false
+bit_single_below : (j d : ℕ) → bit (2 ^ (suc d + j)) j ≡ false
 bit_single_below j d =
     ap (λ (x : ℕ). eqb (x % 2) 1) (ap (λ (x : ℕ). x / 2 ^ j) (pow-add 2 (suc d) j) ∙ shl-shr (2 ^ suc d) j)
     ∙ ap (λ (x : ℕ). eqb x 1) (ap (λ (x : ℕ). x % 2) (pow-suc 2 d) ∙ mul-mod_left (2 ^ d) 2)
@@ -81,13 +82,13 @@ bits_same (suc n) a b ha hb h =
     omega (arith, div-add-mod' a 2, div-add-mod' b 2)
 
 -- `!n` of w bits
-pub bit_ones : (w k : ℕ) → k < w → bit (2 ^ w - 1) k ≡ true
+bit_ones : (w k : ℕ) → k < w → bit (2 ^ w - 1) k ≡ true
 bit_ones w k h =
     let e : bit_and (2 ^ k) (2 ^ w - 1) ≡ 2 ^ k = and_mask (2 ^ k) w ∙ mod-eq_of_lt (pow_below k w h) in
     let both : (bit (2 ^ k) k && bit (2 ^ w - 1) k) ≡ true = sym (bit_of_and (2 ^ k) (2 ^ w - 1) k) ∙ ap (λ (x : ℕ). bit x k) e ∙ bit_single_same k in
     ap (λ b. b && bit (2 ^ w - 1) k) (sym (bit_single_same k)) ∙ both
 
-pub not_is_xor : (w n : ℕ) → n < 2 ^ w → 2 ^ w - 1 - n ≡ bit_xor n (2 ^ w - 1)
+not_is_xor : (w n : ℕ) → n < 2 ^ w → 2 ^ w - 1 - n ≡ bit_xor n (2 ^ w - 1)
 not_is_xor w n h =
     let e : bit_and n (2 ^ w - 1) ≡ n = and_mask n w ∙ mod-eq_of_lt h in
     omega (arith, xor_add_and n (2 ^ w - 1))
@@ -134,47 +135,6 @@ trailing_some zero w l h = absurd (h (omega arith))
 trailing_some (suc n) w l h =
     some_step w (w % 2) (count_trailing_zeros n (w / 2)) n refl (trailing_some n (w / 2) (shr_below w n 1 (rw add-one l))) h
 
--- ---- a number and the one below it
-
-and_same : (b : Bool) → (b && b) ≡ b
-and_same true = refl
-and_same false = refl
-
-and_false : (b : Bool) → (b && false) ≡ false
-and_false true = refl
-and_false false = refl
-
-eqb_suc : (j t : ℕ) → eqb (suc j) (suc t) ≡ eqb j t
-eqb_suc j t =
-    elim (cases_eq j t) [
-      | inl e ↦ eq-eqb (suc j) (suc t) (ap suc e) ∙ sym (eq-eqb j t e)
-      | inr d ↦ ne_eqb (suc j) (suc t) (λ e. d (omega arith)) ∙ sym (ne_eqb j t d)
-    ]
-
-lower_step : (w d t : ℕ) → w % 2 ≡ d → w ≢ 0 → (w / 2 ≢ 0 → (j : ℕ) → (bit (w / 2) j && bit (w / 2 - 1) j) ≡ (not (eqb j t) && bit (w / 2) j)) → (j : ℕ) → (bit w j && bit (w - 1) j) ≡ (not (eqb j (under d t)) && bit w j)
-lower_step w zero t e h ih zero =
-    let off : bit w 0 ≡ false = bit_zero w ∙ ap (λ (x : ℕ). eqb x 1) e in
-    ap (λ b. b && bit (w - 1) 0) off ∙ sym (ap (λ b. not (eqb 0 (suc t)) && b) off ∙ and_false (not (eqb 0 (suc t))))
-lower_step w zero t e h ih (suc j) =
-    let half : (w - 1) / 2 ≡ w / 2 - 1 = omega arith in
-    ap₂ (λ a b. a && b) (bit_suc w j) (bit_suc (w - 1) j ∙ ap (λ (x : ℕ). bit x j) half) ∙ ih (λ z. h (omega arith)) j
-    ∙ ap₂ (λ a b. not a && b) (sym (eqb_suc j t)) (sym (bit_suc w j))
-lower_step w (suc zero) t e h ih zero =
-    let even : (w - 1) % 2 ≡ 0 = omega arith in
-    let off : bit (w - 1) 0 ≡ false = bit_zero (w - 1) ∙ ap (λ (x : ℕ). eqb x 1) even in
-    ap (λ b. bit w 0 && b) off ∙ and_false (bit w 0)
-lower_step w (suc zero) t e h ih (suc j) =
-    let half : (w - 1) / 2 ≡ w / 2 = omega arith in
-    ap₂ (λ a b. a && b) (bit_suc w j) (bit_suc (w - 1) j ∙ ap (λ (x : ℕ). bit x j) half) ∙ and_same (bit (w / 2) j) ∙ sym (bit_suc w j)
-    ∙ ap (λ b. not b && bit w (suc j)) (sym (ne_eqb (suc j) 0 (λ q. omega arith)))
-lower_step w (suc (suc d)) t e h ih j = absurd (omega (arith, mod_below w 2 (omega arith)))
-
--- what the two have in common is the number without its lowest bit
-pub lowest_off : (n w : ℕ) → w < 2 ^ n → w ≢ 0 → (j : ℕ) → (bit w j && bit (w - 1) j) ≡ (not (eqb j (count_trailing_zeros n w)) && bit w j)
-unfolding count_trailing_zeros
-lowest_off zero w l h = absurd (h (omega arith))
-lowest_off (suc n) w l h = lower_step w (w % 2) (count_trailing_zeros n (w / 2)) refl h (lowest_off n (w / 2) (shr_below w n 1 (rw add-one l)))
-
 -- ---- the count of a word's bits
 
 ones_digit : (d : ℕ) → d < 2 → ones d ≡ one (eqb d 1)
@@ -193,18 +153,14 @@ count_bits n (suc k) =
 
 -- ---- shifts up, and what a width keeps
 
-and_true : (b : Bool) → (b && true) ≡ b
-and_true true = refl
-and_true false = refl
-
-pub bit_mod : (n w j : ℕ) → j < w → bit (n % 2 ^ w) j ≡ bit n j
+bit_mod : (n w j : ℕ) → j < w → bit (n % 2 ^ w) j ≡ bit n j
 bit_mod n w j h =
-    ap (λ (x : ℕ). bit x j) (sym (and_mask n w)) ∙ bit_of_and n (2 ^ w - 1) j ∙ ap (λ b. bit n j && b) (bit_ones w j h) ∙ and_true (bit n j)
+    ap (λ (x : ℕ). bit x j) (sym (and_mask n w)) ∙ bit_of_and n (2 ^ w - 1) j ∙ ap (λ b. bit n j && b) (bit_ones w j h) ∙ and-true (bit n j)
 
-pub bit_shl : (n k d : ℕ) → bit (n * 2 ^ k) (k + d) ≡ bit n d
+bit_shl : (n k d : ℕ) → bit (n * 2 ^ k) (k + d) ≡ bit n d
 bit_shl n k d = sym (bit_shr (n * 2 ^ k) k d) ∙ ap (λ (x : ℕ). bit x d) (shl-shr n k)
 
-pub bit_shl_low : (n j d : ℕ) → bit (n * 2 ^ (suc d + j)) j ≡ false
+bit_shl_low : (n j d : ℕ) → bit (n * 2 ^ (suc d + j)) j ≡ false
 bit_shl_low n j d =
     ap (λ (x : ℕ). bit x j) (ap (λ (x : ℕ). n * x) (pow-add 2 (suc d) j) ∙ sym (mul_assoc n (2 ^ suc d) (2 ^ j)))
     ∙ ap (bit (n * 2 ^ suc d * 2 ^ j)) (sym (add-zero j)) ∙ bit_shl (n * 2 ^ suc d) j 0 ∙ bit_zero (n * 2 ^ suc d)

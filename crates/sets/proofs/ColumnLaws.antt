@@ -1,6 +1,6 @@
 -- What columns owe, member by member.
 use Rattle.std.proofs.Common.{◌≡◌, ℕ, ◌<◌, Bool, true, false, ◌&&◌, ◌||◌, ◌==◌, cond, nat_lt, T, Decides, List, length, get_or, set, replicate, ◌%◌, ◌⊎◌, ◌≤◌, sym, refl, ap, ap₂, ◌∙◌, subst, inl, inr, ⊎_elim, get_or-set_same, get_or-set_other}
-use Rattle.std.proofs.lemmas.Bool.{cases_eq, cases_lt, eq-eqb, ne_eqb, lt-ltb, eqb-true, false≢true}
+use Rattle.std.proofs.lemmas.Bool.{and_right, or_right, cases_eq, cases_lt, eq-eqb, ne_eqb, lt-ltb, eqb-true, false≢true}
 use Rattle.std.proofs.lemmas.List.{length-replicate, get_or-replicate, get_or_past}
 use Rattle.sets.specs.Sets.{Numbers, nothing, with, Same}
 use Rattle.sets.proofs.WordLaws.{word_none}
@@ -11,14 +11,10 @@ use Rattle.sets.specs.Columns.{column, unmarked, Joined}
 use Rattle.sets.specs.declared.marks.Marks.{Marks}
 use Rattle.sets.specs.declared.columns.Columns.{Columns}
 
-off : (a b : Bool) → b ≡ false → (a && b) ≡ false
-off true b h = h
-off false b h = refl
-
 pub column_none : (m : Marks) → Same (marked m) nothing → (k : ℕ) → Same (low_marked (get_or (replicate 256 m) k unmarked)) nothing
 unfolding marked
 column_none m none k j =
-    off (nat_lt j 256) (marked (get_or (replicate 256 m) k unmarked) j)
+    and_right (nat_lt j 256) (marked (get_or (replicate 256 m) k unmarked) j)
     (⊎_elim
     (λ l. ap (λ x. marked x j) (get_or-replicate 256 k m unmarked l) ∙ none j)
     (λ h. ap (λ x. marked x j) (get_or_past (replicate 256 m) k unmarked (simp length-replicate h)) ∙ word_none (j % 64))
@@ -88,7 +84,7 @@ JoinedFor c m d = (j : ℕ) → Decides (low_marked m j) (Joined c d j)
 
 pub joined_none : (c : Columns) (m : Marks) (d : Numbers) → Same (marked m) nothing → Same d nothing → JoinedFor c m d
 joined_none c m d none e j = (
-  λ h. absurd (false≢true (sym (off (nat_lt j 256) (marked m j) (none j)) ∙ h)),
+  λ h. absurd (false≢true (sym (and_right (nat_lt j 256) (marked m j) (none j)) ∙ h)),
   λ w. absurd (subst T (e w.number) w.member),
 )
 
@@ -106,10 +102,7 @@ joined_more c old one new d e k s is both h j = (
 )
   where
     go : (b : Bool) → low_marked old j ≡ b → (b || low_marked one j) ≡ true → Joined c e j
-    go true q t = let w = (h j).0 q in record { number = w.number; member = subst T (sym (s w.number)) (true_holds (w.number == k || d w.number) (or_right (w.number == k) (d w.number) (holds_true (d w.number) w.member))); stands = w.stands } where
-      or_right : (a b : Bool) → b ≡ true → (a || b) ≡ true
-      or_right true b h = refl
-      or_right false b h = h
+    go true q t = let w = (h j).0 q in record { number = w.number; member = subst T (sym (s w.number)) (true_holds (w.number == k || d w.number) (or_right (w.number == k) (d w.number) (holds_true (d w.number) w.member))); stands = w.stands }
     go false q t = record {
       number = k;
       member = subst T (sym (s k)) (true_holds (k == k || d k) (ap (λ b. b || d k) (eq-eqb k k refl)));
@@ -117,10 +110,7 @@ joined_more c old one new d e k s is both h j = (
     }
 
     there : (w : Joined c e j) → (w.number ≡ k) ⊎ (w.number ≡ k → ⊥) → (low_marked old j || low_marked one j) ≡ true
-    there w (inl q) = right (low_marked old j) (low_marked one j) (is j ∙ holds_true (column c k j) (subst (λ n. T (column c n j)) q w.stands)) where
-      right : (a b : Bool) → b ≡ true → (a || b) ≡ true
-      right true b h = refl
-      right false b h = h
+    there w (inl q) = or_right (low_marked old j) (low_marked one j) (is j ∙ holds_true (column c k j) (subst (λ n. T (column c n j)) q w.stands))
     there w (inr n) =
         let member : T (d w.number) = subst T (ap (λ b. b || d w.number) (ne_eqb w.number k n)) (subst T (s w.number) w.member) in
         ap (λ b. b || low_marked one j) ((h j).1 (record { number = w.number; member = member; stands = w.stands }))

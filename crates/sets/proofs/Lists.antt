@@ -1,4 +1,4 @@
--- What each method of the list kind owes, over a plain rising list.
+-- What the methods of the list kind owe, over a plain rising list.
 use Rattle.std.proofs.Common.{◌≡◌, ℕ, zero, suc, ◌+◌, ◌<◌, ◌≤◌, false, not, ◌&&◌, ◌||◌, ◌==◌, eqb, ◌≢◌, T, List, [], ◌∷◌, ◌++◌, length, get_or, set, take, drop, ◌-◌, Option, None, Some, MatchOption, Result, Ok, Err, MatchResult, Decides, sym, subst, inl, inr, ap, ap₂, ◌∙◌, add-one, refl, arith, eqb→eq, nat_le, T_not}
 use Rattle.std.specs.List.{AllWithin, list_any, list_all, find, insert, remove}
 use Rattle.std.specs.List.Sorted.{IsBinarySearchResult}
@@ -37,7 +37,7 @@ within_all (x ∷ xs) t w =
 pub decides_all : (xs : List ℕ) (t : Numbers) → Decides (list_all t xs) (Within (listed xs) t)
 decides_all xs t = (λ e. all_within xs t (true_holds (list_all t xs) e), λ w. holds_true (list_all t xs) (within_all xs t w))
 
-pub none_passes : (t : Numbers) (xs : List ℕ) → not (list_any t xs) ≡ list_all (λ x. not (t x)) xs
+none_passes : (t : Numbers) (xs : List ℕ) → not (list_any t xs) ≡ list_all (λ x. not (t x)) xs
 none_passes t [] = refl
 none_passes t (x ∷ xs) = let ih = none_passes t xs in grind arith
 

@@ -4,7 +4,7 @@ use lib.Bits.{bit_and, bit_or, bit_xor}
 use lib.Count.{count_trailing_zeros}
 use Rattle.std.proofs.lemmas.Bool.{cases_lt, lt-ltb, le-ltb, eq-eqb, eqb-true, le-leb}
 use Rattle.sets.specs.Sets.{nothing, Same, Lowest, NoneFrom}
-use Rattle.sets.specs.Truth.{and_T}
+use Rattle.sets.specs.Truth.{and_T, fails_false}
 use Rattle.sets.specs.Words.{bit, word_set}
 use Rattle.sets.specs.Masks.{unlike}
 use Rattle.sets.proofs.Bitwise.{bit_of_and, bit_of_or, bit_of_xor, bit_not, trailing_low}
@@ -124,14 +124,10 @@ module _ (ws : List ℕ) where
 
   pub words_are_none : (b : Bool) → Decides b ((get_or ws 0 0 ≡ 0) × (get_or ws 1 0 ≡ 0) × (get_or ws 2 0 ≡ 0) × (get_or ws 3 0 ≡ 0)) → ((i : ℕ) → i < 4 → get_or ws i 0 < 2 ^ 64) → Decides b (Same (λ k. nat_lt k 256 && held ws k) nothing)
   words_are_none b d fits = (
-    λ e k. off (nat_lt k 256 && held ws k) (words_none (zeros (d.0 e)) k (omega arith)),
+    λ e k. fails_false (nat_lt k 256 && held ws k) (words_none (zeros (d.0 e)) k (omega arith)),
     λ none. d.1 (word none 0 (omega arith), word none 1 (omega arith), word none 2 (omega arith), word none 3 (omega arith)),
   )
     where
-      off : (c : Bool) → (T c → ⊥) → c ≡ false
-      off true h = absurd (h tt)
-      off false h = refl
-
       zeros : (get_or ws 0 0 ≡ 0) × (get_or ws 1 0 ≡ 0) × (get_or ws 2 0 ≡ 0) × (get_or ws 3 0 ≡ 0) → (i : ℕ) → i < 4 → get_or ws i 0 ≡ 0
       zeros z zero l = z.0
       zeros z (suc zero) l = z.1

@@ -15,7 +15,7 @@ pub record Left (Q : Numbers → Numbers → Type 0) (s t : Numbers) (xs ys : Li
   pub up : Q (listed xs) (listed ys) → Q s t
 
 -- the slice behind the first element
-abbrev pub rest : List ℕ → List ℕ
+abbrev rest : List ℕ → List ℕ
 rest xs = take (length xs - 1) (drop 1 xs)
 
 rest_is : (x : ℕ) (xs : List ℕ) → rest (x ∷ xs) ≡ xs

@@ -1,5 +1,6 @@
 -- How far a walk over a set's members has come.
-use Rattle.std.proofs.Common.{◌≡◌, ℕ, ◌+◌, ◌≤◌, Bool, true, false, not, ◌&&◌, ◌||◌, ◌==◌, nat_lt, T, sym, refl, ap, ap₂, ◌∙◌, subst, inl, inr, arith}
+use Rattle.std.proofs.Common.{◌≡◌, ℕ, ◌+◌, ◌≤◌, true, false, not, ◌&&◌, ◌||◌, ◌==◌, nat_lt, T, sym, refl, ap, ap₂, ◌∙◌, subst, inl, inr, arith}
+use Rattle.std.proofs.Math.Bool.{and-true, and-false}
 use Rattle.std.proofs.lemmas.Bool.{cases_eq, cases_lt, eq-eqb, ne_eqb, lt-ltb, le-ltb}
 use Rattle.sets.specs.Sets.{Numbers, nothing, with, without, Within, Same, Lowest, NoneFrom}
 use Rattle.sets.specs.Truth.{holds_true, fails_false, and_T}
@@ -7,14 +8,6 @@ use Rattle.sets.specs.Truth.{holds_true, fails_false, and_T}
 -- the members of s below n
 abbrev pub so_far : Numbers → ℕ → Numbers
 so_far s n j = nat_lt j n && s j
-
-and_false : (b : Bool) → (b && false) ≡ false
-and_false true = refl
-and_false false = refl
-
-and_true : (b : Bool) → (b && true) ≡ b
-and_true true = refl
-and_true false = refl
 
 -- the members of s but for those that are left, r
 abbrev pub but : Numbers → Numbers → Numbers
@@ -36,7 +29,7 @@ pub but_none : (s r : Numbers) → Same r s → Same (but s r) nothing
 but_none s r e j = ap (λ b. s j && not b) (e j) ∙ elim (s j) as (λ b. (b && not b) ≡ false) [ true ↦ refl | false ↦ refl ]
 
 pub but_all : (s r : Numbers) → Same r nothing → Same (but s r) s
-but_all s r e j = ap (λ b. s j && not b) (e j) ∙ and_true (s j)
+but_all s r e j = ap (λ b. s j && not b) (e j) ∙ and-true (s j)
 
 pub left_within : (s r left : Numbers) (k : ℕ) → Within r s → Same left (without r k) → Within left s
 left_within s r left k inside e j t = inside j (and_T (not (j == k)) (r j) (subst T (e j) t)).1
@@ -56,7 +49,7 @@ so_far_next s from k low = (
             elim (cases_lt j k) [
               | inl lt ↦
                   let out = fails_false (s j) (λ t. low.first j ge lt t) in
-                  ap (λ b. nat_lt j (k + 1) && b) out ∙ and_false (nat_lt j (k + 1)) ∙ sym (and_false (nat_lt j from)) ∙ ap (λ b. nat_lt j from && b) (sym out)
+                  ap (λ b. nat_lt j (k + 1) && b) out ∙ and-false (nat_lt j (k + 1)) ∙ sym (and-false (nat_lt j from)) ∙ ap (λ b. nat_lt j from && b) (sym out)
               | inr over ↦ ap (λ b. b && s j) (le-ltb j (k + 1) (above over n) ∙ sym (le-ltb j from ge))
             ]
       ],
@@ -77,5 +70,5 @@ pub so_far_all : (s : Numbers) (from : ℕ) → NoneFrom s from → Same (so_far
 so_far_all s from none j =
     elim (cases_lt j from) [
       | inl lt ↦ ap (λ b. b && s j) (lt-ltb j from lt)
-      | inr ge ↦ let out = fails_false (s j) (λ t. none j ge t) in ap (λ b. nat_lt j from && b) out ∙ and_false (nat_lt j from) ∙ sym out
+      | inr ge ↦ let out = fails_false (s j) (λ t. none j ge t) in ap (λ b. nat_lt j from && b) out ∙ and-false (nat_lt j from) ∙ sym out
     ]

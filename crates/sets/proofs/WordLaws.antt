@@ -5,7 +5,8 @@ use lib.Count.{ones, count_trailing_zeros}
 use Rattle.sets.specs.Sets.{Numbers, with, without, Within, Apart, Same, Below, count, Lowest, NoneFrom}
 use Rattle.sets.specs.Words.{bit, word_set}
 use Rattle.sets.specs.Counts.{count_same}
-use Rattle.sets.proofs.Bitwise.{bit_of_and, bit_of_or, bit_single, bit_not, bits_same, bit_past, lowest_off, trailing_low, trailing_here, trailing_some, count_bits}
+use Rattle.sets.proofs.Bitwise.{bit_of_and, bit_of_or, bit_single, bit_not, bits_same, bit_past, trailing_low, trailing_here, trailing_some, count_bits}
+use Rattle.std.proofs.Math.Bool.{and_comm, or_comm, and-false}
 use Rattle.std.proofs.lemmas.Bool.{eq-eqb, ne_eqb, eqb-true, eqb-false, not-true, not-false, lt-ltb, le-ltb, cases_lt}
 use Rattle.sets.specs.Truth.{holds_true, true_holds, and_T, T_and}
 use Rattle.std.proofs.lemmas.Nat.{pow_below, pow_pos}
@@ -29,22 +30,10 @@ by_bits : (a : ℕ) (s : Numbers) → ((j : ℕ) → j < 64 → bit a j ≡ s j)
 by_bits a s low high j =
     elim (cases_lt j 64) [ inl h ↦ word_bit a j h ∙ low j h | inr h ↦ word_past a j h ∙ sym (high j h) ]
 
-or_swap : (a b : Bool) → (a || b) ≡ (b || a)
-or_swap true true = refl
-or_swap true false = refl
-or_swap false true = refl
-or_swap false false = refl
-
-and_swap : (a b : Bool) → (a && b) ≡ (b && a)
-and_swap true true = refl
-and_swap true false = refl
-and_swap false true = refl
-and_swap false false = refl
-
 pub word_with : (a k : ℕ) → k < 64 → Same (word_set (bit_or a (2 ^ k))) (with (word_set a) k)
 word_with a k h =
     by_bits (bit_or a (2 ^ k)) (with (word_set a) k)
-    (λ j l. bit_of_or a (2 ^ k) j ∙ or_swap (bit a j) (bit (2 ^ k) j) ∙ ap₂ (λ x y. x || y) (bit_single k j) (sym (word_bit a j l)))
+    (λ j l. bit_of_or a (2 ^ k) j ∙ or_comm (bit a j) (bit (2 ^ k) j) ∙ ap₂ (λ x y. x || y) (bit_single k j) (sym (word_bit a j l)))
     (λ j l. ap₂ (λ x y. x || y) (ne_eqb j k (λ e. omega arith)) (word_past a j l))
 
 pub word_full : (a k : ℕ) → 64 ≤ k → Below 64 (with (word_set a) k) → ⊥
@@ -53,9 +42,9 @@ word_full a k h u = let l : k < 64 = u k (true_holds (eqb k k || word_set a k) (
 pub word_without : (a k : ℕ) → k < 64 → Same (word_set (bit_and a (2 ^ 64 - 1 - 2 ^ k))) (without (word_set a) k)
 word_without a k h =
     by_bits (bit_and a (2 ^ 64 - 1 - 2 ^ k)) (without (word_set a) k)
-    (λ j l. bit_of_and a (2 ^ 64 - 1 - 2 ^ k) j ∙ and_swap (bit a j) (bit (2 ^ 64 - 1 - 2 ^ k) j)
+    (λ j l. bit_of_and a (2 ^ 64 - 1 - 2 ^ k) j ∙ and_comm (bit a j) (bit (2 ^ 64 - 1 - 2 ^ k) j)
     ∙ ap₂ (λ x y. x && y) (bit_not 64 (2 ^ k) j (pow_below k 64 h) l ∙ ap not (bit_single k j)) (sym (word_bit a j l)))
-    (λ j l. ap (λ x. not (eqb j k) && x) (word_past a j l) ∙ and_swap (not (eqb j k)) false)
+    (λ j l. ap (λ x. not (eqb j k) && x) (word_past a j l) ∙ and-false (not (eqb j k)))
 
 -- what two words have in common
 pub word_and : (a b k : ℕ) → word_set (bit_and a b) k ≡ (word_set a k && word_set b k)
@@ -125,14 +114,6 @@ module _ (a k m : ℕ) (ha : a < 2 ^ 64) (hm : m < 2 ^ 64) (is : (j : ℕ) → j
   pub masked_lowest : (o : Option ℕ) → is_some o ≡ not (eqb m 0) → IfSome o (λ n. n ≡ count_trailing_zeros 64 m) → MatchOption o (NoneFrom (word_set a) k) (Lowest (word_set a) k)
   masked_lowest None e s = masked_none (eqb-true m 0 (not-false (eqb m 0) (sym e)))
   masked_lowest (Some n) e s = subst (Lowest (word_set a) k) (sym s) (masked_next (eqb-false m 0 (not-true (eqb m 0) (sym e))))
-
--- `rest & (rest - 1)`
-pub word_rest : (a : ℕ) → a < 2 ^ 64 → a ≢ 0 → Same (word_set (bit_and a (a - 1))) (without (word_set a) (count_trailing_zeros 64 a))
-word_rest a h ne =
-    let k = count_trailing_zeros 64 a in
-    by_bits (bit_and a (a - 1)) (without (word_set a) k)
-    (λ j l. bit_of_and a (a - 1) j ∙ lowest_off 64 a h ne j ∙ ap (λ b. not (eqb j k) && b) (sym (word_bit a j l)))
-    (λ j l. ap (λ b. not (eqb j k) && b) (word_past a j l) ∙ and_swap (not (eqb j k)) false)
 
 pub word_lowest : (a : ℕ) → a < 2 ^ 64 → a ≢ 0 → (count_trailing_zeros 64 a < 64) × T (word_set a (count_trailing_zeros 64 a))
 word_lowest a h ne =

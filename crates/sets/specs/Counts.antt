@@ -1,4 +1,4 @@
--- Laws of `count`.
+-- Laws of `count`. They stand in specs since the laws of an `impl` can cite nothing in proofs/.
 use Rattle.std.specs.Prelude.{◌≡◌, ℕ, zero, suc, ◌+◌, ◌<◌, ◌≤◌, Bool, true, false, ◌||◌, T, ◌==◌, refl}
 use Rattle.std.proofs.Common.{ap, ap₂, ◌∙◌, arith, inl, inr}
 use Rattle.sets.specs.Sets.{Numbers, nothing, with, Within, one, count}

@@ -1,4 +1,4 @@
--- Tests as facts.
+-- Tests as facts. They stand in specs since the laws of an `impl` can cite nothing in proofs/.
 use Rattle.std.specs.Prelude.{◌≡◌, Bool, true, false, ◌&&◌, ◌||◌, T, ◌⊎◌, refl}
 use Rattle.std.proofs.Common.{sym, subst, inl, inr}
 

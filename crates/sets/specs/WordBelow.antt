@@ -1,4 +1,4 @@
--- The members of a word are below 64.
+-- The members of a word are below 64. It stands in specs since the laws of an `impl` can cite nothing in proofs/.
 use Rattle.std.specs.Prelude.{ℕ, nat_lt}
 use Rattle.std.proofs.Common.{ltb→lt}
 use Rattle.sets.specs.Sets.{Below}

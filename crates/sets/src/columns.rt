@@ -29,9 +29,7 @@ impl Columns {
         if k >= 256 {
             return;
         }
-        let mut column = self.columns[k];
-        column.set(place, true);
-        self.columns[k] = column;
+        self.columns[k].set(place, true);
     }
 
     // The number's column.

@@ -1,5 +1,5 @@
 // What every set kind means and answers.
-ghost use Rattle.std.specs.Prelude.{◌≡◌, ℕ, ◌<◌, ◌≤◌, ◌&&◌, ◌==◌, cond, nat_lt, true, T, Decides, MatchOption, OnOk, OnErr, Some, codes};
+ghost use Rattle.std.specs.Prelude.{◌≡◌, ℕ, ◌≤◌, ◌&&◌, ◌==◌, cond, nat_lt, true, Decides, MatchOption, OnOk, OnErr, Some, codes};
 ghost use Rattle.sets.specs.Sets.{Numbers, nothing, with, without, Within, Apart, Same, Below, count, Lowest, NoneFrom};
 ghost use Rattle.sets.specs.Marks.{marked};
 ghost use Rattle.sets.specs.Masks.{low_marked};

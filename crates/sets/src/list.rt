@@ -1,5 +1,5 @@
 // The list kind: at most 16 numbers below 256, in rising order.
-ghost use Rattle.std.specs.Prelude.{◌≡◌, ℕ, ◌+◌, ◌<◌, ◌≤◌, T, take, slice_index};
+ghost use Rattle.std.specs.Prelude.{◌≡◌, ◌≤◌, T, take};
 ghost use Rattle.sets.specs.Sets.{listed};
 ghost use Rattle.sets.specs.Rising.{rising, Sixteen};
 ghost use Rattle.sets.specs.Listing.{listed_bounds};

@@ -1,5 +1,5 @@
 // The word kind: a set of numbers below 64 in the bits of one word.
-ghost use Rattle.std.specs.Prelude.{◌≡◌, ℕ, ◌^◌, ◌<◌};
+ghost use Rattle.std.specs.Prelude.{◌≡◌, ◌^◌, ◌<◌};
 ghost use Rattle.sets.specs.Sets.{Below};
 ghost use Rattle.sets.specs.Words.{word_set};
 ghost use Rattle.sets.specs.WordBelow.{word_under};

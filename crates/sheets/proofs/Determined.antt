@@ -11,14 +11,14 @@ use Rattle.sheets.proofs.Parses.{item_path, item_cuts, item_bytes}
 use Rattle.sheets.proofs.Fronting.{line_same, item_plain, number_same, fronts_parts}
 
 -- a line of an item does not stop the items
-pub stops_fronts : (n : ℕ) (x l : Bytes) → n < 1000 → Stops x → Fronts n x l → ⊥
+stops_fronts : (n : ℕ) (x l : Bytes) → n < 1000 → Stops x → Fronts n x l → ⊥
 stops_fronts n x l small st f =
     let e = fronts_parts n x l f ∙ ap (λ (z : Bytes). z ++ (10 ∷ f.1.0)) (item_bytes n l small) in
     ⊎_elim (λ (p : x ≡ []). let q = sym p ∙ e in let z : ◌≡◌ {A = ℕ} 0 1 = cc in omega arith)
     (λ t. ⊎_elim (λ b. item_path _ b.0 (sym e ∙ b.1)) (λ b. item_cuts _ b.0 (sym e ∙ b.1)) t) st
 
 -- a text has at most one ITEM line in front
-pub fronts_same : (n : ℕ) (x l m : Bytes) → n < 1000 → Fronts n x l → Fronts n x m → l ≡ m
+fronts_same : (n : ℕ) (x l m : Bytes) → n < 1000 → Fronts n x l → Fronts n x m → l ≡ m
 fronts_same n x l m small f g =
     let p = line_same (item_line n l) (item_line n m) f.1.0 g.1.0 (item_plain n l small f.0) (item_plain n m small g.0) (sym (fronts_parts n x l f) ∙ fronts_parts n x m g) in
     (number_same (item_line n l) n n l m small small refl p.0).1
@@ -80,7 +80,7 @@ module _ (places : ℕ) (ls : List Bytes) (x : Bytes) (few : length ls ≤ 256) 
       let e = fronts_same (length ls) x l n (omega arith) f fr in
       ap (λ (q : ℕ). Err (Repeated (length ls + 1) q)) (first_same ls n i j (subst (λ z. First ls z i) e g) fi)
 
-  pub answers_same : (r s : Result ℕ ItemsFault) → Answers places ls x r → Answers places ls x s → r ≡ s
+  answers_same : (r s : Result ℕ ItemsFault) → Answers places ls x r → Answers places ls x s → r ≡ s
   answers_same r s (stop st k) b = sym (same_stop s st k b)
   answers_same r s (none st k) b = sym (same_none s st k b)
   answers_same r s (unformed st k) b = sym (same_unformed s st k b)
@@ -89,7 +89,7 @@ module _ (places : ℕ) (ls : List Bytes) (x : Bytes) (few : length ls ≤ 256) 
   answers_same r s (again l i f k m g) b = sym (same_again s l i f k m g b)
 
   -- after the answer there is no further item that could have been read
-  pub no_more : (r : Result ℕ ItemsFault) (l : Bytes) (t : List Bytes) → Answers places ls x r → Accepted (ls ++ (l ∷ t)) → length (ls ++ (l ∷ t)) ≤ places → Fronts (length ls) x l → ⊥
+  no_more : (r : Result ℕ ItemsFault) (l : Bytes) (t : List Bytes) → Answers places ls x r → Accepted (ls ++ (l ∷ t)) → length (ls ++ (l ∷ t)) ≤ places → Fronts (length ls) x l → ⊥
   no_more r l t (stop st k) a room f = no_both l st f
   no_more r l t (none st k) a room f = no_both l st f
   no_more r l t (unformed st k) a room f = k l f
@@ -141,7 +141,7 @@ goes_on places ls ms x y l t r a b room answer e f =
     let lab : Label l = subst Label (get_or_at ls l t [] (length ls) refl) (c.labels (length ls) (omega arith)) in
     no_more places ls x few r l t answer c w (fronts_items (length ls) x y l t lab (f ∙ ap (λ (n : ℕ). items_text n (l ∷ t) ++ y) (zero-add (length ls))))
 
-pub items_read_same : (text : Bytes) (places : ℕ) (r s : Result ℕ ItemsFault) (ls ms : List Bytes) → ItemsRead text places r ls → ItemsRead text places s ms → (r ≡ s) × (ls ≡ ms)
+items_read_same : (text : Bytes) (places : ℕ) (r s : Result ℕ ItemsFault) (ls ms : List Bytes) → ItemsRead text places r ls → ItemsRead text places s ms → (r ≡ s) × (ls ≡ ms)
 items_read_same text places r s ls ms p q = same (compare_items 0 ls ms p.rest q.rest (let few = p.accepted.few in omega arith) p.accepted.labels q.accepted.labels (sym p.parts ∙ q.parts))
   where
     same : Compared 0 ls ms p.rest q.rest → (r ≡ s) × (ls ≡ ms)

@@ -71,7 +71,7 @@ line_same l m x y pl pm e = let p = span_same NoFeed l m (10 ∷ x) (10 ∷ y) p
 pub fronts_parts : (n : ℕ) (rest l : Bytes) (f : Fronts n rest l) → rest ≡ item_line n l ++ (10 ∷ f.1.0)
 fronts_parts n rest l (lab, (after, e)) = e ∙ append_assoc (item_line n l) (10 ∷ []) after
 
-pub fronts_line : (text : Bytes) (at n : ℕ) (line l : Bytes) → n < 1000 → Ended text at line → Fronts n (drop at text) l → line ≡ item_line n l
+fronts_line : (text : Bytes) (at n : ℕ) (line l : Bytes) → n < 1000 → Ended text at line → Fronts n (drop at text) l → line ≡ item_line n l
 fronts_line text at n line l small ended f =
     (line_same line (item_line n l) _ _ ended.plain (item_plain n l small f.0) (sym ended.parts ∙ fronts_parts n (drop at text) l f)).0
 

@@ -21,7 +21,7 @@ pub record Going (text : Bytes) (before places : List LabelPlace) (at count : �
   pub memory : Filled before places ls
   pub room : count ≤ length before
 
-pub items_push : (k : ℕ) (ls : List Bytes) (l : Bytes) → items_text k (ls ++ (l ∷ [])) ≡ items_text k ls ++ (item_line (k + length ls) l ++ (10 ∷ []))
+items_push : (k : ℕ) (ls : List Bytes) (l : Bytes) → items_text k (ls ++ (l ∷ [])) ≡ items_text k ls ++ (item_line (k + length ls) l ++ (10 ∷ []))
 items_push k [] l = rw add-zero
 items_push k (m ∷ ms) l =
     let n : suc k + length ms ≡ k + suc (length ms) = omega arith in
@@ -30,7 +30,7 @@ items_push k (m ∷ ms) l =
 pub length_items : (k : ℕ) (m : Bytes) (ms : List Bytes) → k < 1000 → length (items_text k (m ∷ ms)) ≡ 10 + length m + length (items_text (suc k) ms)
 length_items k m ms h = let a = length-append (item_line k m) (10 ∷ items_text (suc k) ms) in let b = length_item k m h in omega arith
 
-pub places_push : (k at : ℕ) (ls : List Bytes) (l : Bytes) → k + length ls ≤ 1000 → places_from at (ls ++ (l ∷ [])) ≡ places_from at ls ++ (record { start = at + length (items_text k ls) + 9; len = length l } ∷ [])
+places_push : (k at : ℕ) (ls : List Bytes) (l : Bytes) → k + length ls ≤ 1000 → places_from at (ls ++ (l ∷ [])) ≡ places_from at ls ++ (record { start = at + length (items_text k ls) + 9; len = length l } ∷ [])
 places_push k at [] l h = rw add-zero
 places_push k at (m ∷ ms) l h =
     let long = length_items k m ms (omega arith) in
@@ -42,12 +42,12 @@ length_places at [] = refl
 length_places at (l ∷ ls) = ap suc (length_places (at + 10 + length l) ls)
 
 -- what an ITEM line in a text says of its parts
-pub record Split (text : Bytes) (at : ℕ) (l x : Bytes) : Type 0 where
-  pub label : drop (at + 9) text ≡ l ++ (10 ∷ x)
-  pub rest : drop (at + 10 + length l) text ≡ x
-  pub fits : at + 10 + length l ≤ length text
+record Split (text : Bytes) (at : ℕ) (l x : Bytes) : Type 0 where
+  label : drop (at + 9) text ≡ l ++ (10 ∷ x)
+  rest : drop (at + 10 + length l) text ≡ x
+  fits : at + 10 + length l ≤ length text
 
-pub item_split : (text : Bytes) (at k : ℕ) (l x : Bytes) → k < 1000 → drop at text ≡ item_line k l ++ (10 ∷ x) → Split text at l x
+item_split : (text : Bytes) (at k : ℕ) (l x : Bytes) → k < 1000 → drop at text ≡ item_line k l ++ (10 ∷ x) → Split text at l x
 item_split text at k l x small e =
     let f = e ∙ ap (λ (z : Bytes). z ++ (10 ∷ x)) (item_bytes k l small) in
     let g = sym (drop-drop 9 at text) ∙ ap (λ (z : Bytes). drop 9 z) f in
@@ -63,7 +63,7 @@ item_split text at k l x small e =
     }
 
 -- the places of the labels stand for them
-pub names_places : (text : Bytes) (at k : ℕ) (ls : List Bytes) (rest : Bytes) → k + length ls ≤ 1000 → drop at text ≡ items_text k ls ++ rest → map (named text) (places_from at ls) ≡ ls
+names_places : (text : Bytes) (at k : ℕ) (ls : List Bytes) (rest : Bytes) → k + length ls ≤ 1000 → drop at text ≡ items_text k ls ++ rest → map (named text) (places_from at ls) ≡ ls
 names_places text at k [] rest h e = refl
 names_places text at k (l ∷ ls) rest h e =
     let s = item_split text at k l (items_text (suc k) ls ++ rest) (omega arith) (e ∙ append_assoc (item_line k l) (10 ∷ items_text (suc k) ls) rest) in
@@ -73,7 +73,7 @@ names_places text at k (l ∷ ls) rest h e =
     let there = names_places text (at + 10 + length l) (suc k) ls rest (omega arith) s.rest in
     cc
 
-pub accepted_push : (ls : List Bytes) (l : Bytes) → Accepted ls → Label l → Absent ls l → length ls < 256 → Accepted (ls ++ (l ∷ []))
+accepted_push : (ls : List Bytes) (l : Bytes) → Accepted ls → Label l → Absent ls l → length ls < 256 → Accepted (ls ++ (l ∷ []))
 accepted_push ls l a lab fresh few =
     let long = length_push ls l in
     record {
@@ -88,7 +88,7 @@ accepted_push ls l a lab fresh few =
       few = omega arith;
     }
 
-pub filled_push : (before : List LabelPlace) (at : ℕ) (ls : List Bytes) (l : Bytes) → length ls ≤ 256 → length ls < length before → at ≡ length (items_text 0 ls) →
+filled_push : (before : List LabelPlace) (at : ℕ) (ls : List Bytes) (l : Bytes) → length ls ≤ 256 → length ls < length before → at ≡ length (items_text 0 ls) →
     set (places_from 0 ls ++ drop (length ls) before) (length ls) (record { start = at + 9; len = length l }) ≡ places_from 0 (ls ++ (l ∷ [])) ++ drop (length (ls ++ (l ∷ []))) before
 filled_push before at ls l few room e =
     let p : LabelPlace = record { start = at + 9; len = length l } in
@@ -100,7 +100,7 @@ filled_push before at ls l few room e =
     ∙ sym (append_assoc (places_from 0 ls) (p ∷ []) (drop (length ls + 1) before))
     ∙ rw (long, q, z)
 
-pub going_more : (text : Bytes) (before places : List LabelPlace) (at count : ℕ) (ls : List Bytes) (l : Bytes) → Going text before places at count ls → ItemAt text at count l → count < 256 → count < length before → Absent ls l →
+going_more : (text : Bytes) (before places : List LabelPlace) (at count : ℕ) (ls : List Bytes) (l : Bytes) → Going text before places at count ls → ItemAt text at count l → count < 256 → count < length before → Absent ls l →
     Going text before (set places count (record { start = at + 9; len = length l })) (at + 10 + length l) (count + 1) (ls ++ (l ∷ []))
 going_more text before places at count ls l g i few room fresh =
     let many = g.many in

@@ -7,20 +7,20 @@ use Rattle.sheets.specs.Labels.{First, Absent}
 use Rattle.sheets.specs.Looks.{Looked, looked_none, looked_more, Lost}
 use Rattle.sheets.proofs.Spans.{named_on}
 
-pub spaced_append : (ls ms : List Bytes) → spaced (ls ++ ms) ≡ spaced ls ++ spaced ms
+spaced_append : (ls ms : List Bytes) → spaced (ls ++ ms) ≡ spaced ls ++ spaced ms
 spaced_append [] ms = refl
 spaced_append (l ∷ ls) ms = ap (λ (z : Bytes). 32 ∷ (l ++ z)) (spaced_append ls ms) ∙ ap (λ (z : Bytes). 32 ∷ z) (sym (append_assoc l (spaced ls) (spaced ms)))
 
-pub labels_append : (ls ms : List Bytes) → Labels ls → Labels ms → Labels (ls ++ ms)
+labels_append : (ls ms : List Bytes) → Labels ls → Labels ms → Labels (ls ++ ms)
 labels_append [] ms a b = b
 labels_append (l ∷ ls) ms a b = (a.0, labels_append ls ms a.1 b)
 
-pub looked_push : (names ls : List Bytes) (ks : List ℕ) (l : Bytes) (k : ℕ) → Looked names ls ks → First names l k → Looked names (ls ++ l ∷ []) (ks ++ k ∷ [])
+looked_push : (names ls : List Bytes) (ks : List ℕ) (l : Bytes) (k : ℕ) → Looked names ls ks → First names l k → Looked names (ls ++ l ∷ []) (ks ++ k ∷ [])
 looked_push names ls ks l k looked_none f = looked_more l k [] [] f looked_none
 looked_push names ls ks l k (looked_more m j ms js g r) f = looked_more m j (ms ++ l ∷ []) (js ++ k ∷ []) g (looked_push names ms js l k r f)
 
 -- the memory has the first of the numbers
-abbrev pub Stored : List ℕ → List ℕ → Type 0
+abbrev Stored : List ℕ → List ℕ → Type 0
 Stored memory ks = take (length ks) memory ≡ take (length memory) ks
 
 stored_front : (memory ks : List ℕ) (k : ℕ) → length ks < length memory → Stored memory ks → Stored (set memory (length ks) k) (ks ++ k ∷ [])
@@ -55,7 +55,7 @@ module _ (names : List Bytes) (row memory rest : List ℕ) (count : ℕ) (g : Lo
   next_parts = g.parts ∙ ap (λ (z : Bytes). spaced g.labels ++ z) (n.parts ∙ ap (λ (z : Bytes). 32 ∷ (z ++ left)) (sym (append-nil l))) ∙ sym (append_assoc (spaced g.labels) (spaced (l ∷ [])) left)
       ∙ ap (λ (z : Bytes). z ++ left) (sym (spaced_append g.labels (l ∷ [])))
 
-  pub shorter : length left < length rest
+  shorter : length left < length rest
   shorter = let e = ap length n.parts in let a = length-append l left in omega arith
 
   looking_next : (k : ℕ) (later : List ℕ) → First names l k → Stored later (g.items ++ k ∷ []) → Looking names row later left (count + 1)

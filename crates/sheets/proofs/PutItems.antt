@@ -22,7 +22,7 @@ module _ (n : ℕ) (holds : Numbers → Type 0) (ks : List ℕ) where
       let s : suc m ≡ m + 1 = omega arith in
       rw s (omega arith)
 
-  pub at_most : (m : ℕ) → m ≤ length ks → Pass n holds ks m → m ≤ n
+  at_most : (m : ℕ) → m ≤ length ks → Pass n holds ks m → m ≤ n
   at_most m h pass = let c = counted m h pass in let d = count_most (listed (take m ks)) n in omega arith
 
 -- what is said of the first m numbers is said of the list

@@ -13,7 +13,7 @@ use Rattle.sheets.specs.declared.rows_fault.RowsFault.{RowsFault}
 use Rattle.sheets.specs.declared.rows_fault.RowsFault.TheVariants.{Unformed}
 use Rattle.sheets.proofs.RowFronting.{no_rows, no_feed_rows}
 
-pub rows_push : (rs : List RowLine) (r : RowLine) → rows_text (rs ++ r ∷ []) ≡ rows_text rs ++ (line_of r ++ (10 ∷ []))
+rows_push : (rs : List RowLine) (r : RowLine) → rows_text (rs ++ r ∷ []) ≡ rows_text rs ++ (line_of r ++ (10 ∷ []))
 rows_push [] r = refl
 rows_push (q ∷ rs) r = ap (λ (z : Bytes). line_of q ++ (10 ∷ z)) (rows_push rs r) ∙ sym (append_assoc (line_of q) (10 ∷ rows_text rs) (line_of r ++ (10 ∷ [])))
 

@@ -8,7 +8,7 @@ use Rattle.sheets.specs.Rows.{RowLine, Run, run_none, run_path, run_cuts, RowsEn
 use Rattle.sheets.specs.declared.rows_fault.RowsFault.{RowsFault}
 
 module _ (n a b : ℕ) (holds : Numbers → Type 0) (none : holds nothing) (names : List Bytes) where
-  pub run_past : (ps cs qs ds : List Numbers) (rs : List RowLine) → Run n a b holds names ps cs rs qs ds → Past n a b holds ps cs → Past n a b holds qs ds
+  run_past : (ps cs qs ds : List Numbers) (rs : List RowLine) → Run n a b holds names ps cs rs qs ds → Past n a b holds ps cs → Past n a b holds qs ds
   run_past ps cs qs ds rs (run_none x y) past = past
   run_past ps cs qs ds rs (run_path x y us z e ls ks many ts f l p more) past = run_past us y z e ts more ((calls_go_on holds none).path_puts n a b x y us ks _ past p)
   run_past ps cs qs ds rs (run_cuts x y us z e ls ks many ts f l p more) past = run_past x us z e ts more ((calls_go_on holds none).cut_puts n a b x y us ks _ past p)

@@ -13,7 +13,7 @@ use Rattle.sheets.specs.declared.rows_fault.RowsFault.TheVariants.{Unformed}
 use Rattle.sheets.proofs.RowsGoing.{RowsGoing, rows_start, rows_end, line_step, line_refused, feed_refused}
 
 -- what `put_line` and `put_rows` say of tables
-abbrev pub Line : {X : Type 0} {G : Ghosts X} → (X → Numbers) → (Numbers → Type 0) → List Bytes → Bytes → ℕ → Table X G → Table X G → Result (Unit {0}) RowsFault → Table X G → Table X G → Type 0
+abbrev Line : {X : Type 0} {G : Ghosts X} → (X → Numbers) → (Numbers → Type 0) → List Bytes → Bytes → ℕ → Table X G → Table X G → Result (Unit {0}) RowsFault → Table X G → Table X G → Type 0
 Line mem holds names line nth P C r P' C' = (n : ℕ) (ps cs : List Numbers) → Holds mem P n ps → Holds mem C n cs
     → (qs ds : List Numbers) × Holds mem P' n qs × Holds mem C' n ds × LinePut n P.capacity C.capacity holds names line nth ps cs r qs ds
 

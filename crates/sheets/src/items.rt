@@ -1,5 +1,5 @@
 // The first reading call: the labels of the ITEM lines, into places that the caller lends.
-ghost use Rattle.std.specs.Prelude.{◌≡◌, ℕ, ◌+◌, ◌<◌, ◌≤◌, List, length, drop, Decides, MatchResult, IfOk};
+ghost use Rattle.std.specs.Prelude.{◌≡◌, ◌+◌, ◌<◌, ◌≤◌, List, length, drop, Decides, MatchResult, IfOk};
 ghost use Rattle.sheets.specs.Bytes.{Bytes};
 ghost use Rattle.sheets.specs.Items.{Stops, Fronts, ItemAt, Taken, Refused, ItemsRead, Filled, ItemsCall, names_of};
 ghost use Rattle.sheets.specs.declared.line.LineFault.TheVariants.{Bad};

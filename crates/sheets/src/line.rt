@@ -1,6 +1,6 @@
 // A line taken apart.
 ghost use Rattle.std.specs.Prelude.{◌≡◌, ◌≢◌, ℕ, ◌<◌, [], ◌∷◌, ◌++◌, codes, Decides, MatchOption, MatchResult};
-ghost use Rattle.sheets.specs.Bytes.{Bytes, Label, Row, right};
+ghost use Rattle.sheets.specs.Bytes.{Label, Row, right};
 ghost use Rattle.sheets.specs.Runs.{Visible, Named};
 ghost use Rattle.sheets.specs.Lines.{IsItem, Says, Begins, Unformed, NoItem, line_fault};
 ghost use Rattle.sheets.specs.declared.line.LineFault.TheVariants.{Bad};

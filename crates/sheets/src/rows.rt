@@ -1,5 +1,5 @@
 // The second reading call: the rows of a text.
-ghost use Rattle.std.specs.Prelude.{◌≡◌, ℕ, ◌+◌, ◌≤◌, List, length, drop, map};
+ghost use Rattle.std.specs.Prelude.{ℕ, ◌+◌, ◌≤◌, List, length, drop, map};
 ghost use Rattle.sets.specs.Sets.{Numbers};
 ghost use Rattle.tables.specs.Tables.{Holds, Kept};
 ghost use Rattle.sheets.specs.Labels.{named};

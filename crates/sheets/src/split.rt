@@ -1,5 +1,5 @@
 // The splitter: the line of a text that begins at a place.
-ghost use Rattle.std.specs.Prelude.{◌≡◌, ◌+◌, ◌<◌, ◌≤◌, length, drop, MatchResult};
+ghost use Rattle.std.specs.Prelude.{◌≡◌, ◌≤◌, length, drop, MatchResult};
 ghost use Rattle.sheets.specs.Bytes.{Feedless};
 ghost use Rattle.sheets.specs.Lines.{Ended};
 ghost use Rattle.sheets.specs.declared.split.SplitFault.TheVariants.{Unended};

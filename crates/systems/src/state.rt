@@ -14,7 +14,7 @@ pub struct State {
 }
 
 impl State {
-    ghost use Rattle.std.specs.Prelude.{◌<◌, ◌&&◌, if◌then◌else◌, nat_le};
+    ghost use Rattle.std.specs.Prelude.{◌<◌, if◌then◌else◌, nat_le};
     ghost use Rattle.sets.specs.Sets.{nothing, Same};
     ghost use Rattle.systems.specs.States.{up, marked};
     ghost use Rattle.systems.specs.Systems.{others};

@@ -26,5 +26,11 @@ pub fn alone_up<K: SetKind>(n: usize, set: &K) -> State
     ensures many { 256 < n → result.count ≡ 0 }
     ensures marks { (k : ℕ) → k < result.count → up result k ≡ K.mem set.now k }
 {
-    State::from_fn(n, |item| set.member(item))
+    let mut state = State::new(n);
+    let mut from = 0;
+    'up: while let Some(item) = set.next(from) {
+        state.set(item, true);
+        from = item + 1;
+    }
+    state
 }

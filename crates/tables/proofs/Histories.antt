@@ -99,7 +99,7 @@ removed_part xs row lt =
 push_cases : (xs : List Numbers) (r : Numbers) (i : ℕ) → i < length (xs ++ r ∷ []) → (i < length xs) ⊎ (length xs ≡ i)
 push_cases xs r i h = let n = length_push xs r in ⊎_elim (λ (l : i < length xs). inl l) (λ (l : length xs ≤ i). inr (omega arith)) (cases_lt i (length xs))
 
-pub push_each : (P : Numbers → Type 0) (xs : List Numbers) (r : Numbers) → EachRow xs P → P r → EachRow (xs ++ r ∷ []) P
+push_each : (P : Numbers → Type 0) (xs : List Numbers) (r : Numbers) → EachRow xs P → P r → EachRow (xs ++ r ∷ []) P
 push_each P xs r each p i h = ⊎_elim
     (λ (l : i < length xs). subst P (sym (get_or_append_left xs (r ∷ []) nothing i l)) (each i l))
     (λ (e : length xs ≡ i). subst P (sym (get_or_push xs r nothing i e)) p)

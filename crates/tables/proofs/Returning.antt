@@ -58,7 +58,7 @@ listed_here s k (suc n) j a b =
           ∙ and_false (s k) (s j)
     ]
 
-pub listed_members : (s : Numbers) (top : ℕ) → Below top s → listed (members_from s 0 top) ≡ s
+listed_members : (s : Numbers) (top : ℕ) → Below top s → listed (members_from s 0 top) ≡ s
 listed_members s top low = fun_ext (λ j. ⊎_elim
     (λ (l : j < top). listed_here s 0 top j (omega arith) (omega arith))
     (λ (g : top ≤ j). listed_out s 0 top j (λ i a b e. omega arith) ∙ sym (fails_false (s j) (λ m. let b = low j m in omega arith)))

@@ -24,7 +24,7 @@ pub struct Table<'a, K: SetKind> {
 }
 
 impl<'a, K: SetKind> Table<'a, K> {
-    ghost use Rattle.std.specs.Prelude.{◌≡◌, ℕ, ◌<◌, ◌⊎◌, List, [], map, take, MatchResult, OnErr};
+    ghost use Rattle.std.specs.Prelude.{◌≡◌, ℕ, ◌<◌, ◌⊎◌, List, map, take, MatchResult, OnErr};
     ghost use Rattle.sets.specs.Sets.{Numbers};
     ghost use Rattle.tables.specs.Refusals.{table_refusal, table_reply, shown};
     ghost use Rattle.tables.specs.Memory.{meant};

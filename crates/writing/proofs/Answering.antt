@@ -29,21 +29,21 @@ use Rattle.writing.proofs.Outputting.{outputs_err, outputs_ok}
 
 -- ---- rows read into two tables that were opened for them
 
-pub record ReadIn {X : Type 0} {G : Ghosts X} (mem : X → Numbers) (holds : Numbers → Type 0) (text : Bytes) (labels : List LabelPlace) (paths paths' cuts cuts' : List (Row X)) (P C : Table X G) (reply : Result (Unit {0}) RowsFault) : Type 0 where
-  pub ps : List Numbers
-  pub cs : List Numbers
-  pub hold_paths : Holds mem P (length labels) ps
-  pub hold_cuts : Holds mem C (length labels) cs
-  pub past : Past (length labels) P.capacity C.capacity holds ps cs
-  pub call : RowsCall (length labels) (length labels) (min 4096 (length paths)) (min 4096 (length cuts)) holds text labels [] [] reply ps cs
-  pub path_memory : Left mem paths paths' (min 4096 (length paths)) (length ps) ps
-  pub cut_memory : Left mem cuts cuts' (min 4096 (length cuts)) (length cs) cs
+record ReadIn {X : Type 0} {G : Ghosts X} (mem : X → Numbers) (holds : Numbers → Type 0) (text : Bytes) (labels : List LabelPlace) (paths paths' cuts cuts' : List (Row X)) (P C : Table X G) (reply : Result (Unit {0}) RowsFault) : Type 0 where
+  ps : List Numbers
+  cs : List Numbers
+  hold_paths : Holds mem P (length labels) ps
+  hold_cuts : Holds mem C (length labels) cs
+  past : Past (length labels) P.capacity C.capacity holds ps cs
+  call : RowsCall (length labels) (length labels) (min 4096 (length paths)) (min 4096 (length cuts)) holds text labels [] [] reply ps cs
+  path_memory : Left mem paths paths' (min 4096 (length paths)) (length ps) ps
+  cut_memory : Left mem cuts cuts' (min 4096 (length cuts)) (length cs) cs
 
 pub text_short : {n a b : ℕ} {holds : Numbers → Type 0} {text : Bytes} {labels : List LabelPlace} {ps cs qs ds : List Numbers} → RowsCall n n a b holds text labels ps cs (Ok tt) qs ds → length text ≤ 65535
 text_short (rows_read lines rest r qs ds fit short skips read) = short
 
 -- what is answered for the labels at these places
-abbrev pub Answered : {X : Type 0} → (X → Numbers) → (Numbers → Type 0) → Bytes → List LabelPlace → List (Row X) → List (Row X) → List (Row X) → List (Row X) → Bytes → Result Reported TextFault → Bytes → Type 0
+abbrev Answered : {X : Type 0} → (X → Numbers) → (Numbers → Type 0) → Bytes → List LabelPlace → List (Row X) → List (Row X) → List (Row X) → List (Row X) → Bytes → Result Reported TextFault → Bytes → Type 0
 Answered mem holds text labels paths paths' cuts cuts' before r after = (bytes : Bytes) × KindAnswer mem holds text labels paths paths' cuts cuts' (length before) (verdict_of r) bytes × Leaves r bytes before after
 
 module _ {X : Type 0} {G : Ghosts X} {mem : X → Numbers} {holds : Numbers → Type 0} {text : Bytes} {labels : List LabelPlace} {paths paths' cuts cuts' : List (Row X)} {P₀ P C₀ C : Table X G}

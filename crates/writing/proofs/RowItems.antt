@@ -11,7 +11,7 @@ use Rattle.writing.proofs.Going.{Going, going_more, going_room, going_all}
 use Rattle.writing.proofs.Writing.{wrote_then}
 
 -- the labels of the items of the row s from the number k on
-abbrev pub labels_from : List Bytes → Numbers → ℕ → Bytes
+abbrev labels_from : List Bytes → Numbers → ℕ → Bytes
 labels_from names s k = spaced (labels_at names (members_from s k (256 - k)))
 
 -- these labels are left

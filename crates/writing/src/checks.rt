@@ -1,5 +1,4 @@
 // The checks that a call on two tables and their labels begins with.
-ghost use Rattle.std.specs.Prelude.{length};
 ghost use Rattle.writing.specs.Writes.{Checks};
 
 use crate::fault::WriteFault;

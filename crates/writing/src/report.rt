@@ -1,5 +1,5 @@
 // The report of an audit.
-ghost use Rattle.std.specs.Prelude.{◌≡◌, ℕ, ◌+◌, ◌<◌, ◌≤◌, ◌^◌, List, map, length};
+ghost use Rattle.std.specs.Prelude.{ℕ, ◌+◌, ◌<◌, ◌≤◌, ◌^◌, List, map, length};
 ghost use Rattle.sets.specs.Sets.{Numbers};
 ghost use Rattle.systems.specs.States.{up};
 ghost use Rattle.tables.specs.Pasts.{Past};

@@ -1,4 +1,5 @@
 use Rattle.std.proofs.Common.{arith}
+use Rattle.duality.proofs.Tallies.{having_few}
 use Rattle.duality.proofs.Choosing.{by_paths, by_cuts, by_both}
 use Rattle.duality.proofs.choice.choose.Goals as goal
 use Rattle.duality.proofs.choice.choose.Goals.{then-of_paths-of_cuts, else-of_paths-of_cuts+then-of_paths-of_cuts-2, else-of_paths-of_cuts+else-of_paths-of_cuts-2}
@@ -8,8 +9,8 @@ returns g c ps cs np nc tp tc =
     let bits = g.M.Mask.bits in
     let p = c.most-path_count.result in
     let q = c.most-cut_count.result in
-    let mp = c.most-path_count.ensures.most in
-    let mc = c.most-cut_count.ensures.most in
+    let mp = c.most-path_count.ensures.most (λ k. omega (arith, tp.each k, having_few ps k, np)) in
+    let mc = c.most-cut_count.ensures.most (λ k. omega (arith, tc.each k, having_few cs k, nc)) in
     let paths = c.args.path_planes.now in
     let cuts = c.args.cut_planes.now in
     let low = c.lowest.ensures in

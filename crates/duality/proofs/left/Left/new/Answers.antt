@@ -15,7 +15,7 @@ returns-clause-fits g c =
     let first = c.split_at.result.0.now in
     let masks = c.load.new.places in
     let long : length masks ≡ c.min-count.result = sym (length-map masks bits) ∙ ap length c.load.ensures ∙ length-map first (meant mem) ∙ ap length c.split_at.ensures.front ∙ length-take-le c.min-count.result c.args.rows.now (omega arith) in
-    fits_all _ c.min-count.result refl long (omega (arith, c.requires.room)) refl
+    fits_all bits _ c.min-count.result refl long (omega (arith, c.requires.most, c.split_at_mut-planes.ensures.back_len, c.min-count.ensures)) refl (omega (arith, c.split_at_mut-planes.ensures.front_len)) refl
 
 pub returns-clause-all : goal.returns-clause-all
 returns-clause-all g c =

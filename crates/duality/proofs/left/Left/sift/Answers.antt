@@ -16,7 +16,7 @@ any-requires-clause-callable g c = serves_by _ (λ xs q. q.now ≡ c.args.row_is
 
 pub returns-clause-sifted : goal.returns-clause-sifted
 returns-clause-sifted g c test h =
-    sifted_after g.M.Mask.bits g.K.SetKind.mem c.args.self.now _ c.requires.fits c.sift-self.new.masks c.sift-self.ensures.moved refl refl refl c.sift-self.ensures.fewer test (c.sift-self.ensures.front test h)
+    sifted_after g.M.Mask.bits g.K.SetKind.mem c.args.self.now _ c.requires.fits c.sift-self.new.masks c.sift-self.ensures.moved refl refl refl c.sift-self.ensures.fewer refl refl test (c.sift-self.ensures.front test h)
 
 pub returns-clause-left : goal.returns-clause-left
 returns-clause-left g c test h on_rows =

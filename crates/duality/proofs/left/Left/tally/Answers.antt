@@ -1,14 +1,15 @@
-use Rattle.std.proofs.Common.{take, sym, ◌∙◌}
-use Rattle.std.proofs.lemmas.List.{length-map, length-take-le}
-use Rattle.duality.specs.Remaining.{left_masks}
+use borrow.Rule.Slice.PartMut.{put_same}
+use Rattle.std.proofs.Common.{◌-◌, refl, subst}
+use Rattle.std.specs.Prelude.{MatchOption}
+use Rattle.duality.specs.Remaining.{Counted}
+use Rattle.duality.proofs.Sifting.{fits_tallied, less_dropped}
 use Rattle.duality.proofs.left.Left.tally.Goals as goal
 
-pub returns-clause-tallied : goal.returns-clause-tallied
-unfolding left_masks
-returns-clause-tallied g c = c.tally.ensures.tallied
-
-pub returns-clause-count : goal.returns-clause-count
-unfolding left_masks
-returns-clause-count g c =
+-- fewer have dropped out since the planes were made than are left
+pub returns-then-tallied-self-2-clause-fits : goal.returns-then-tallied-self-2-clause-fits
+returns-then-tallied-self-2-clause-fits g c =
+    let bits = g.M.Mask.bits in
     let left = c.args.self.now in
-    sym (length-map (take left.count left.masks.now) g.M.Mask.bits ∙ length-take-le left.count left.masks.now c.requires.fits.inside)
+    let of_first : Counted bits left c.in-Some.tallied = subst (λ o. MatchOption o (Unit {0}) (Counted bits left)) c.in-Some.is c.requires.counted in
+    fits_tallied bits left _ c.requires (record { masks = put_same left.count (c.in-Some.tallied - left.count) left.masks.now; behind = refl; count = refl; counts = refl }) c.take_away.ensures.long refl
+    (less_dropped bits left c.in-Some.tallied c.take_away.new.planes c.requires of_first c.take_away.ensures.each)
