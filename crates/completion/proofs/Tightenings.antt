@@ -1,5 +1,5 @@
 -- The loop in which rows give way to minimal ones.
-use Rattle.std.proofs.Common.{◌≡◌, ℕ, suc, ◌+◌, ◌<◌, ◌≤◌, true, false, not, List, [], ◌∷◌, ◌++◌, length, get_or, filter, sym, refl, ap, ◌∙◌, subst, ⊎_elim, arith}
+use Rattle.std.proofs.Common.{◌≡◌, ℕ, ◌+◌, ◌-◌, ◌<◌, ◌≤◌, true, false, not, List, [], ◌∷◌, ◌++◌, length, get_or, filter, sym, refl, ap, ◌∙◌, subst, ⊎_elim, arith}
 use Rattle.std.specs.List.{remove}
 use Rattle.std.proofs.lemmas.List.{append-nil, append_assoc, length-append, get_or-append-add, length_push, nil_from_length}
 use Rattle.std.proofs.lemmas.List.Elements.{filter-append}
@@ -40,15 +40,14 @@ struck_finer rows at p less w j h =
 
 -- ---- the loop
 
--- The rows before `at` are minimal, and so are all but some of the others, which with the turns so far are no more than there
--- were rows.
-pub record Tightening (n capacity : ℕ) (holds : Numbers → Type 0) (ψ : Structure) (ps rs : List Numbers) (at turn : ℕ) : Type 0 where
+-- the rows before `at` and from `end` on are minimal
+pub record Tightening (n capacity : ℕ) (holds : Numbers → Type 0) (ψ : Structure) (ps rs : List Numbers) (at end : ℕ) : Type 0 where
   pub front : List Numbers
   pub middle : List Numbers
   pub back : List Numbers
   pub is : rs ≡ front ++ (middle ++ back)
   pub at_is : length front ≡ at
-  pub few : length middle + turn ≤ length ps
+  pub end_is : length front + length middle ≡ end
   pub front_least : EachRow front (MinimalPath ψ)
   pub back_least : EachRow back (MinimalPath ψ)
   pub sound : Sound n capacity holds rs
@@ -56,14 +55,14 @@ pub record Tightening (n capacity : ℕ) (holds : Numbers → Type 0) (ψ : Stru
   pub finer : Finer ps rs
 
 module _ (n capacity : ℕ) (holds : Numbers → Type 0) (ψ : Structure) (ps : List Numbers) where
-  pub tight_none : Sound n capacity holds ps → EachRow ps (PathBorne ψ) → Tightening n capacity holds ψ ps ps 0 0
+  pub tight_none : Sound n capacity holds ps → EachRow ps (PathBorne ψ) → Tightening n capacity holds ψ ps ps 0 (length ps)
   tight_none sound borne = record {
     front = [];
     middle = ps;
     back = [];
     is = sym (append-nil ps);
     at_is = refl;
-    few = omega arith;
+    end_is = omega arith;
     front_least = λ i h. absurd (omega arith);
     back_least = λ i h. absurd (omega arith);
     sound = sound;
@@ -71,13 +70,13 @@ module _ (n capacity : ℕ) (holds : Numbers → Type 0) (ψ : Structure) (ps : 
     finer = finer_refl ps;
   }
 
-  module _ (rs : List Numbers) (at turn : ℕ) (t : Tightening n capacity holds ψ ps rs at turn) where
+  module _ (rs : List Numbers) (at end : ℕ) (t : Tightening n capacity holds ψ ps rs at end) where
     rows_are : length rs ≡ length t.front + (length t.middle + length t.back)
     rows_are = ap length t.is ∙ length-append t.front (t.middle ++ t.back) ∙ ap (λ k. length t.front + k) (length-append t.middle t.back)
 
-    tight_done : length t.middle ≡ 0 → Tightened n capacity holds ψ ps rs
-    tight_done e =
-        let is : rs ≡ t.front ++ t.back = t.is ∙ ap (λ m. t.front ++ (m ++ t.back)) (nil_from_length t.middle e) in
+    pub tight_all : end ≤ at → Tightened n capacity holds ψ ps rs
+    tight_all le =
+        let is : rs ≡ t.front ++ t.back = t.is ∙ ap (λ m. t.front ++ (m ++ t.back)) (nil_from_length t.middle (omega (arith, t.at_is, t.end_is))) in
         record {
           minimals = record {
             sound = t.sound;
@@ -86,61 +85,44 @@ module _ (n capacity : ℕ) (holds : Numbers → Type 0) (ψ : Structure) (ps : 
           finer = t.finer;
         }
 
-    -- as many turns as rows were made, or there are no more rows
-    pub tight_all : length ps ≤ turn → Tightened n capacity holds ψ ps rs
-    tight_all le = tight_done (omega (arith, t.few))
-
-    pub tight_end : length rs ≤ at → Tightened n capacity holds ψ ps rs
-    tight_end le = tight_done (omega (arith, rows_are, t.at_is))
-
     -- the row at `at`, and the others
     pub record Opening : Type 0 where
       pub head : Numbers
-      pub middle : List Numbers
-      pub back : List Numbers
-      pub is : rs ≡ t.front ++ (head ∷ (middle ++ back))
-      pub few : length middle + (turn + 1) ≤ length ps
-      pub back_least : EachRow back (MinimalPath ψ)
+      pub tail : List Numbers
+      pub middle_is : t.middle ≡ head ∷ tail
+      pub is : rs ≡ t.front ++ (head ∷ (tail ++ t.back))
+      pub there : at < length rs
 
-    pub opening : at < length rs → turn < length ps → Opening
-    opening lt more = go t.middle t.back refl refl where
-      go : (m b : List Numbers) → t.middle ≡ m → t.back ≡ b → Opening
-      go [] [] e f = absurd (omega (arith, rows_are, t.at_is, ap length e, ap length f))
-      go [] (x ∷ b) e f = record {
+    pub opening : at < end → Opening
+    opening lt = go t.middle refl where
+      go : (m : List Numbers) → t.middle ≡ m → Opening
+      go [] e = absurd (omega (arith, t.at_is, t.end_is, ap length e))
+      go (x ∷ m) e = record {
         head = x;
-        middle = [];
-        back = b;
-        is = t.is ∙ ap (λ l. t.front ++ (l ++ t.back)) e ∙ ap (λ l. t.front ++ l) f;
-        few = omega arith;
-        back_least = λ i h. subst (λ l. EachRow l (MinimalPath ψ)) f t.back_least (suc i) (omega arith);
-      }
-      go (x ∷ m) b e f = record {
-        head = x;
-        middle = m;
-        back = t.back;
+        tail = m;
+        middle_is = e;
         is = t.is ∙ ap (λ l. t.front ++ (l ++ t.back)) e;
-        few = omega (arith, t.few, ap length e);
-        back_least = t.back_least;
+        there = omega (arith, rows_are, t.at_is, ap length e);
       }
 
     module _ (o : Opening) where
       head_is : get_or rs at nothing ≡ o.head
       head_is =
           let at_add : length t.front + 0 ≡ at = omega (arith, t.at_is) in
-          ap (λ l. get_or l at nothing) o.is ∙ ap (λ k. get_or (t.front ++ (o.head ∷ (o.middle ++ o.back))) k nothing) (sym at_add)
-          ∙ get_or-append-add t.front (o.head ∷ (o.middle ++ o.back)) 0 nothing
+          ap (λ l. get_or l at nothing) o.is ∙ ap (λ k. get_or (t.front ++ (o.head ∷ (o.tail ++ t.back))) k nothing) (sym at_add)
+          ∙ get_or-append-add t.front (o.head ∷ (o.tail ++ t.back)) 0 nothing
 
       -- it is minimal
-      pub tight_next : MinimalPath ψ (get_or rs at nothing) → Tightening n capacity holds ψ ps rs (at + 1) (turn + 1)
+      pub tight_next : MinimalPath ψ (get_or rs at nothing) → Tightening n capacity holds ψ ps rs (at + 1) end
       tight_next m = record {
         front = t.front ++ o.head ∷ [];
-        middle = o.middle;
-        back = o.back;
-        is = o.is ∙ sym (append_assoc t.front (o.head ∷ []) (o.middle ++ o.back));
+        middle = o.tail;
+        back = t.back;
+        is = o.is ∙ sym (append_assoc t.front (o.head ∷ []) (o.tail ++ t.back));
         at_is = length_push t.front o.head ∙ omega (arith, t.at_is);
-        few = o.few;
+        end_is = omega (arith, length_push t.front o.head, t.end_is, ap length o.middle_is);
         front_least = each_push (MinimalPath ψ) t.front o.head t.front_least (subst (MinimalPath ψ) head_is m);
-        back_least = o.back_least;
+        back_least = t.back_least;
         sound = t.sound;
         borne = t.borne;
         finer = t.finer;
@@ -153,47 +135,50 @@ module _ (n capacity : ℕ) (holds : Numbers → Type 0) (ψ : Structure) (ps : 
         stay_all low xs m out =
             kept_all (stays n p) xs (λ i h. stays_yes n p (get_or xs i nothing) low (λ w. out i h (minimal_path_back ψ p (get_or xs i nothing) least (m i h) w)))
 
-        put_is : Below n p → ContainsNone rs p → staying n rs p ≡ t.front ++ (filter (stays n p) o.middle ++ o.back)
+        put_is : Below n p → ContainsNone rs p → staying n rs p ≡ t.front ++ (filter (stays n p) o.tail ++ t.back)
         put_is low new =
-            let out : EachRow (t.front ++ (o.head ∷ (o.middle ++ o.back))) (λ r. Within r p → ⊥) = subst (λ l. EachRow l (λ r. Within r p → ⊥)) o.is new in
-            let rest = each_right (λ r. Within r p → ⊥) t.front (o.head ∷ (o.middle ++ o.back)) out in
-            let out_back = each_right (λ r. Within r p → ⊥) (o.head ∷ o.middle) o.back rest in
+            let out : EachRow (t.front ++ (o.head ∷ (o.tail ++ t.back))) (λ r. Within r p → ⊥) = subst (λ l. EachRow l (λ r. Within r p → ⊥)) o.is new in
+            let rest = each_right (λ r. Within r p → ⊥) t.front (o.head ∷ (o.tail ++ t.back)) out in
+            let out_back = each_right (λ r. Within r p → ⊥) (o.head ∷ o.tail) t.back rest in
             let gone : stays n p o.head ≡ false = stays_no n p o.head low (subst (Within p) head_is less.0) in
             ap (filter (stays n p)) o.is
-            ∙ filter-append (stays n p) t.front (o.head ∷ (o.middle ++ o.back))
-            ∙ ap (λ l. l ++ filter (stays n p) (o.head ∷ (o.middle ++ o.back)))
-            (stay_all low t.front t.front_least (each_left (λ r. Within r p → ⊥) t.front (o.head ∷ (o.middle ++ o.back)) out))
+            ∙ filter-append (stays n p) t.front (o.head ∷ (o.tail ++ t.back))
+            ∙ ap (λ l. l ++ filter (stays n p) (o.head ∷ (o.tail ++ t.back)))
+            (stay_all low t.front t.front_least (each_left (λ r. Within r p → ⊥) t.front (o.head ∷ (o.tail ++ t.back)) out))
             ∙ ap (λ l. t.front ++ l)
-            (cond-false (stays n p o.head) (o.head ∷ filter (stays n p) (o.middle ++ o.back)) (filter (stays n p) (o.middle ++ o.back)) gone
-            ∙ filter-append (stays n p) o.middle o.back
-            ∙ ap (λ l. filter (stays n p) o.middle ++ l) (stay_all low o.back o.back_least out_back))
+            (cond-false (stays n p o.head) (o.head ∷ filter (stays n p) (o.tail ++ t.back)) (filter (stays n p) (o.tail ++ t.back)) gone
+            ∙ filter-append (stays n p) o.tail t.back
+            ∙ ap (λ l. filter (stays n p) o.tail ++ l) (stay_all low t.back t.back_least out_back))
 
-        pub tight_replaced : at < length rs → (qs : List Numbers) → Replaced n capacity holds rs at p qs → Tightening n capacity holds ψ ps qs at (turn + 1)
-        tight_replaced lt qs (replace_put ok) = record {
+        pub tight_replaced : (gone : ℕ) (qs : List Numbers) → Replaced n capacity holds rs at p gone qs → Tightening n capacity holds ψ ps qs at (end - gone)
+        tight_replaced gone qs (replace_put ok) =
+            let left = filter (stays n p) o.tail in
+            let is = put_is ok.items ok.new in
+            let whole = length-append t.front (left ++ t.back) in
+            let rest = length-append left t.back in
+            record {
+              front = t.front;
+              middle = left;
+              back = t.back ++ p ∷ [];
+              is = ap (λ l. l ++ p ∷ []) is ∙ append_assoc t.front (left ++ t.back) (p ∷ []) ∙ ap (λ l. t.front ++ l) (append_assoc left t.back (p ∷ []));
+              at_is = t.at_is;
+              end_is = omega (arith, t.end_is, rows_are, ap length is, whole, rest, ap length o.middle_is, kept_fewer (stays n p) o.tail);
+              front_least = t.front_least;
+              back_least = each_push (MinimalPath ψ) t.back p t.back_least least;
+              sound = sound_put n capacity holds rs p ok t.sound;
+              borne = each_push (PathBorne ψ) (staying n rs p) p (each_kept (PathBorne ψ) (stays n p) rs t.borne) least.works;
+              finer = finer_trans ps rs (after_put n rs p) t.finer (put_finer n rs p ok.items);
+            }
+        tight_replaced gone qs (replace_struck w) = record {
           front = t.front;
-          middle = filter (stays n p) o.middle;
-          back = o.back ++ p ∷ [];
-          is = ap (λ l. l ++ p ∷ []) (put_is ok.items ok.new)
-              ∙ append_assoc t.front (filter (stays n p) o.middle ++ o.back) (p ∷ [])
-              ∙ ap (λ l. t.front ++ l) (append_assoc (filter (stays n p) o.middle) o.back (p ∷ []));
+          middle = o.tail;
+          back = t.back;
+          is = ap (λ l. remove l at) o.is ∙ ap (λ k. remove (t.front ++ (o.head ∷ (o.tail ++ t.back))) k) (sym t.at_is) ∙ removed_at t.front o.head (o.tail ++ t.back);
           at_is = t.at_is;
-          few = omega (arith, o.few, kept_fewer (stays n p) o.middle);
+          end_is = omega (arith, t.end_is, ap length o.middle_is);
           front_least = t.front_least;
-          back_least = each_push (MinimalPath ψ) o.back p o.back_least least;
-          sound = sound_put n capacity holds rs p ok t.sound;
-          borne = each_push (PathBorne ψ) (staying n rs p) p (each_kept (PathBorne ψ) (stays n p) rs t.borne) least.works;
-          finer = finer_trans ps rs (after_put n rs p) t.finer (put_finer n rs p ok.items);
-        }
-        tight_replaced lt qs (replace_struck w) = record {
-          front = t.front;
-          middle = o.middle;
-          back = o.back;
-          is = ap (λ l. remove l at) o.is ∙ ap (λ k. remove (t.front ++ (o.head ∷ (o.middle ++ o.back))) k) (sym t.at_is) ∙ removed_at t.front o.head (o.middle ++ o.back);
-          at_is = t.at_is;
-          few = o.few;
-          front_least = t.front_least;
-          back_least = o.back_least;
-          sound = sound_struck n capacity holds rs at lt t.sound;
+          back_least = t.back_least;
+          sound = sound_struck n capacity holds rs at o.there t.sound;
           borne = each_removed (PathBorne ψ) rs at t.borne;
           finer = finer_trans ps rs (remove rs at) t.finer (struck_finer rs at p less w);
         }

@@ -44,14 +44,19 @@ fn smaller<K: SetKind, D: Drawing>(drawing: &D, set: &K) -> Option<State>
     }
 }
 
-// Puts a set that is less than the row, which removes the row; where another row lies within the set, the row is struck.
-fn replace<K: SetKind>(table: &mut Table<K>, row: usize, set: &State)
+// Puts a set that is less than the row, which removes the row; where another row lies within the set, the row is struck. Answers
+// how many rows are gone.
+fn replace<K: SetKind>(table: &mut Table<K>, row: usize, set: &State) -> usize
     ensures kept { Kept table.old table.new }
-    ensures replaces { (n : ℕ) (ps : List Numbers) → 1 ≤ n → Holds K.mem table.old n ps → Sound n table.old.capacity K.holds ps → set.now.count ≡ n → row < length ps → ProperSubset (up set.now) (slice_index_or ps row nothing) → (qs : List Numbers) × Holds K.mem table.new n qs × Replaced n table.old.capacity K.holds ps row (up set.now) qs }
+    ensures some { 1 ≤ result }
+    ensures replaces { (n : ℕ) (ps : List Numbers) → 1 ≤ n → Holds K.mem table.old n ps → Sound n table.old.capacity K.holds ps → set.now.count ≡ n → row < length ps → ProperSubset (up set.now) (slice_index_or ps row nothing) → (qs : List Numbers) × Holds K.mem table.new n qs × Replaced n table.old.capacity K.holds ps row (up set.now) result qs }
 {
-    if offer(table, set).is_err() {
-        // the row is there where the premises of `replaces` hold, and elsewhere nothing is promised
+    if let Ok(gone) = offer(table, set) {
+        gone.max(1)
+    } else {
+        // the row is there where the premises of `replaces` hold, and elsewhere nothing is promised of the rows
         let _ = table.strike(row);
+        1
     }
 }
 
@@ -60,14 +65,15 @@ pub(crate) fn tighten<K: SetKind, D: Drawing>(table: &mut Table<K>, drawing: &D)
     ensures kept { Kept table.old table.new }
     ensures tightens { (n : ℕ) (ps : List Numbers) → 1 ≤ n → Holds K.mem table.old n ps → Sound n table.old.capacity K.holds ps → (D.means drawing.now).items ≡ n → EachRow ps (PathBorne (D.means drawing.now)) → (qs : List Numbers) × Holds K.mem table.new n qs × Tightened n table.old.capacity K.holds (D.means drawing.now) ps qs }
 {
-    // the rows before `at` are minimal, and each turn passes by a row or removes one that was there; by its number, since the table changes
+    // the rows before `at` are minimal, and so are those from `end` on, which were put here; by number, since the table changes
     let mut at = 0;
-    for _turn in 0..table.row_count() {
+    let mut end = table.row_count();
+    while at < end {
         let Ok(set) = table.row(at) else {
             return;
         };
         if let Some(least) = smaller(drawing, set) {
-            replace(table, at, &least);
+            end = end.saturating_sub(replace(table, at, &least));
         } else {
             at += 1;
         }
