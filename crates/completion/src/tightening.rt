@@ -15,28 +15,29 @@ use sets::SetKind;
 use systems::{Drawing, State, all_up, alone_up};
 use tables::Table;
 
-// Whether the drawing works with the set of a row alone up.
-fn bears_out<K: SetKind, D: Drawing>(drawing: &D, set: &K) -> bool
-    ensures { (D.means drawing.now).items ≤ 256 → Below (D.means drawing.now).items (K.mem set.now) → result ≡ (D.means drawing.now).works (K.mem set.now) }
+// Whether the drawing, of n items, works with the set of a row alone up.
+fn bears_out<K: SetKind, D: Drawing>(drawing: &D, n: usize, set: &K) -> bool
+    ensures { (D.means drawing.now).items ≡ n → (D.means drawing.now).items ≤ 256 → Below (D.means drawing.now).items (K.mem set.now) → result ≡ (D.means drawing.now).works (K.mem set.now) }
 {
-    drawing.works(&alone_up(drawing.item_count(), set))
+    drawing.works(&alone_up(n, set))
 }
 
 // The first row that the drawing does not bear out.
 pub(crate) fn first_unborne<K: SetKind, D: Drawing>(table: &Table<K>, drawing: &D) -> Option<usize>
     ensures { (n : ℕ) (ps : List Numbers) → Holds K.mem table.now n ps → Sound n table.now.capacity K.holds ps → (D.means drawing.now).items ≡ n → MatchOption result (EachRow ps (PathBorne (D.means drawing.now))) (FirstNot (PathBorne (D.means drawing.now)) ps) }
 {
+    let n = table.item_count();
     table
         .rows()
         .iter()
-        .position(|row| !bears_out(drawing, row.set()))
+        .position(|row| !bears_out(drawing, n, row.set()))
 }
 
-// A minimal set that is less than the set of a row, unless that is minimal itself.
-fn smaller<K: SetKind, D: Drawing>(drawing: &D, set: &K) -> Option<State>
-    ensures { (D.means drawing.now).items ≤ 256 → Below (D.means drawing.now).items (K.mem set.now) → PathBorne (D.means drawing.now) (K.mem set.now) → MatchOption result (MinimalPath (D.means drawing.now) (K.mem set.now)) (Smaller (D.means drawing.now) (K.mem set.now)) }
+// A minimal set that is less than the set of a row, unless that is minimal itself; the drawing has n items.
+fn smaller<K: SetKind, D: Drawing>(drawing: &D, n: usize, set: &K) -> Option<State>
+    ensures { (D.means drawing.now).items ≡ n → (D.means drawing.now).items ≤ 256 → Below (D.means drawing.now).items (K.mem set.now) → PathBorne (D.means drawing.now) (K.mem set.now) → MatchOption result (MinimalPath (D.means drawing.now) (K.mem set.now)) (Smaller (D.means drawing.now) (K.mem set.now)) }
 {
-    let least = shrink(drawing, &alone_up(drawing.item_count(), set));
+    let least = shrink(drawing, &alone_up(n, set));
     if all_up(set, &least) {
         None
     } else {
@@ -65,6 +66,7 @@ pub(crate) fn tighten<K: SetKind, D: Drawing>(table: &mut Table<K>, drawing: &D)
     ensures kept { Kept table.old table.new }
     ensures tightens { (n : ℕ) (ps : List Numbers) → 1 ≤ n → Holds K.mem table.old n ps → Sound n table.old.capacity K.holds ps → (D.means drawing.now).items ≡ n → EachRow ps (PathBorne (D.means drawing.now)) → (qs : List Numbers) × Holds K.mem table.new n qs × Tightened n table.old.capacity K.holds (D.means drawing.now) ps qs }
 {
+    let n = table.item_count();
     // the rows before `at` are minimal, and so are those from `end` on, which were put here; by number, since the table changes
     let mut at = 0;
     let mut end = table.row_count();
@@ -72,7 +74,7 @@ pub(crate) fn tighten<K: SetKind, D: Drawing>(table: &mut Table<K>, drawing: &D)
         let Ok(set) = table.row(at) else {
             return;
         };
-        if let Some(least) = smaller(drawing, set) {
+        if let Some(least) = smaller(drawing, n, set) {
             end = end.saturating_sub(replace(table, at, &least));
         } else {
             at += 1;

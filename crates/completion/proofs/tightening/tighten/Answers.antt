@@ -1,5 +1,5 @@
 -- Each turn looks at the row at `at`: it is minimal, or it is replaced.
-use Rattle.std.proofs.Common.{ℕ, ◌≤◌, get_or, sym, ◌∙◌, subst, arith}
+use Rattle.std.proofs.Common.{◌≡◌, ℕ, ◌≤◌, get_or, sym, ◌∙◌, subst, arith}
 use Rattle.sets.specs.Sets.{nothing}
 use Rattle.systems.specs.States.{up}
 use Rattle.systems.specs.Systems.{ProperSubset, MinimalPath}
@@ -38,8 +38,9 @@ loop-at-preserved-in-Some g c =
       tight = λ n ps pos h sound e borne.
           let i = inv.tight n ps pos h sound e borne in
           let shown = row_shown n i.0 at v (c.in-Ok.ensures n i.0 i.1) in
+          let same : ψ.items ≡ c.item_count-n.result = e ∙ sym h.items ∙ sym c.item_count-n.ensures in
           let few : ψ.items ≤ 256 = omega (arith, h.items, e, before.small) in
-          let s = c.in-Some.ensures few (rw (e, shown.1) (i.2.sound.items at shown.0)) (rw shown.1 (i.2.borne at shown.0)) in
+          let s = c.in-Some.ensures same few (rw (e, shown.1) (i.2.sound.items at shown.0)) (rw shown.1 (i.2.borne at shown.0)) in
           let less : ProperSubset (up least) (get_or i.0 at nothing) = subst (ProperSubset (up least)) shown.1 s.less in
           let q = c.replace.ensures.replaces n i.0 pos i.1 (rw inv.kept.capacity i.2.sound) (s.count ∙ e) shown.0 less in (
             q.0,
@@ -62,8 +63,9 @@ loop-at-preserved g c =
       tight = λ n ps pos h sound e borne.
           let i = inv.tight n ps pos h sound e borne in
           let shown = row_shown n i.0 at v (c.in-Ok.ensures n i.0 i.1) in
+          let same : ψ.items ≡ c.item_count-n.result = e ∙ sym h.items ∙ sym c.item_count-n.ensures in
           let few : ψ.items ≤ 256 = omega (arith, h.items, e, c.args.table.now.small) in
-          let m = c.in_default-smaller.ensures few (rw (e, shown.1) (i.2.sound.items at shown.0)) (rw shown.1 (i.2.borne at shown.0)) in
+          let m = c.in_default-smaller.ensures same few (rw (e, shown.1) (i.2.sound.items at shown.0)) (rw shown.1 (i.2.borne at shown.0)) in
           (i.0, i.1, tight_next n _ _ ψ ps i.0 at c.loop-at.end i.2 (opening n _ _ _ ps i.0 at c.loop-at.end i.2 c.loop-at-test.true) (subst (MinimalPath ψ) shown.1 m));
     }
 
