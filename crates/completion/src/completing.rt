@@ -32,7 +32,7 @@ pub fn complete<K: SetKind, D: Drawing>(
     if m != n {
         return Err(PairFault::CountsDiffer(n, m).into());
     }
-    let dual = Dual { drawing };
+    let dual = Dual { drawing, items: m };
     if let Some(row) = first_unborne(paths, drawing) {
         return Err(CompletionFault::NotBorneOut(Side::Paths, row));
     }
@@ -41,5 +41,5 @@ pub fn complete<K: SetKind, D: Drawing>(
     }
     tighten(paths, drawing);
     tighten(cuts, &dual);
-    fill(paths, cuts, drawing)
+    fill(paths, cuts, &dual)
 }

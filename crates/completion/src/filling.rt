@@ -38,18 +38,18 @@ pub(crate) fn add<K: SetKind, D: Drawing>(
 pub(crate) fn learn<K: SetKind, D: Drawing>(
     paths: &mut Table<K>,
     cuts: &mut Table<K>,
-    drawing: &D,
+    from_cuts: &Dual<D>,
     missed: &State,
 ) -> Result<(), CompletionFault>
     ensures paths_kept { Kept paths.old paths.new }
     ensures cuts_kept { Kept cuts.old cuts.new }
     ensures only { OnlyBlocked result }
-    ensures learns { (n : ℕ) (ps cs : List Numbers) → 1 ≤ n → Holds K.mem paths.old n ps → Holds K.mem cuts.old n cs → (D.means drawing.now).items ≡ n → MissedState n ps cs missed.now → Minimals n paths.old.capacity K.holds (D.means drawing.now) ps → Minimals n cuts.old.capacity K.holds (dual (D.means drawing.now)) cs → (qs ds : List Numbers) × Holds K.mem paths.new n qs × Holds K.mem cuts.new n ds × Learns n paths.old.capacity cuts.old.capacity K.holds (D.means drawing.now) ps cs result qs ds }
+    ensures learns { (n : ℕ) (ps cs : List Numbers) → 1 ≤ n → Holds K.mem paths.old n ps → Holds K.mem cuts.old n cs → (D.means from_cuts.now.drawing.now).items ≡ n → MissedState n ps cs missed.now → Minimals n paths.old.capacity K.holds (D.means from_cuts.now.drawing.now) ps → Minimals n cuts.old.capacity K.holds (dual (D.means from_cuts.now.drawing.now)) cs → (qs ds : List Numbers) × Holds K.mem paths.new n qs × Holds K.mem cuts.new n ds × Learns n paths.old.capacity cuts.old.capacity K.holds (D.means from_cuts.now.drawing.now) ps cs result qs ds }
 {
-    if drawing.works(missed) {
-        add(paths, drawing, missed).map_err(|blocked| blocked.at(Side::Paths))
+    if from_cuts.drawing.works(missed) {
+        add(paths, from_cuts.drawing, missed).map_err(|blocked| blocked.at(Side::Paths))
     } else {
-        add(cuts, &Dual { drawing }, &missed.flipped()).map_err(|blocked| blocked.at(Side::Cuts))
+        add(cuts, from_cuts, &missed.flipped()).map_err(|blocked| blocked.at(Side::Cuts))
     }
 }
 
@@ -57,12 +57,12 @@ pub(crate) fn learn<K: SetKind, D: Drawing>(
 pub(crate) fn fill<K: SetKind, D: Drawing>(
     paths: &mut Table<K>,
     cuts: &mut Table<K>,
-    drawing: &D,
+    from_cuts: &Dual<D>,
 ) -> Result<(), CompletionFault>
     ensures paths_kept { Kept paths.old paths.new }
     ensures cuts_kept { Kept cuts.old cuts.new }
     ensures only { OnlyBlocked result }
-    ensures fills { (n : ℕ) (ps cs : List Numbers) → 1 ≤ n → Holds K.mem paths.old n ps → Holds K.mem cuts.old n cs → (D.means drawing.now).items ≡ n → Minimals n paths.old.capacity K.holds (D.means drawing.now) ps → Minimals n cuts.old.capacity K.holds (dual (D.means drawing.now)) cs → (qs ds : List Numbers) × Holds K.mem paths.new n qs × Holds K.mem cuts.new n ds × Fills n paths.old.capacity cuts.old.capacity K.holds (D.means drawing.now) ps cs result qs ds }
+    ensures fills { (n : ℕ) (ps cs : List Numbers) → 1 ≤ n → Holds K.mem paths.old n ps → Holds K.mem cuts.old n cs → (D.means from_cuts.now.drawing.now).items ≡ n → Minimals n paths.old.capacity K.holds (D.means from_cuts.now.drawing.now) ps → Minimals n cuts.old.capacity K.holds (dual (D.means from_cuts.now.drawing.now)) cs → (qs ds : List Numbers) × Holds K.mem paths.new n qs × Holds K.mem cuts.new n ds × Fills n paths.old.capacity cuts.old.capacity K.holds (D.means from_cuts.now.drawing.now) ps cs result qs ds }
 {
     let mut search = Search::new(paths.item_count());
     let places = paths.capacity() + cuts.capacity();
@@ -70,7 +70,7 @@ pub(crate) fn fill<K: SetKind, D: Drawing>(
         let Some(missed) = search.next_missed(paths.rows(), cuts.rows()) else {
             return Ok(());
         };
-        learn(paths, cuts, drawing, &missed)?;
+        learn(paths, cuts, from_cuts, &missed)?;
     }
     Err(CompletionFault::MoreThanPlaces(Side::Paths))
 }

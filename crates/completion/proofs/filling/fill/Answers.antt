@@ -45,7 +45,7 @@ returns-in_err-learn-clause-fills g c =
     let f = c.in_err-learn.field-0.0 in
     let p = err_from_is_err_and c.from_residual.result c.from_residual.ensures.1 in
     let P : Result (Unit {0}) CompletionFault → Type 0 =
-    Filled g.K.SetKind.mem g.K.SetKind.holds (g.D.Drawing.means c.args.drawing.now) c.args.paths.now c.args.cuts.now c.learn.new.paths c.learn.new.cuts in
+    Filled g.K.SetKind.mem g.K.SetKind.holds (g.D.Drawing.means c.args.from_cuts.now.drawing.now) c.args.paths.now c.args.cuts.now c.learn.new.paths c.learn.new.cuts in
     subst P (sym (p.1 ∙ ap Err p.2))
     (filled_blocked inv.filling c.rows.ensures.rows c.rows-in-loop-turn.ensures.rows inv.paths_kept.capacity inv.cuts_kept.capacity
     c.in-Some.missed c.in-Some.ensures.found c.learn.new.paths c.learn.new.cuts f c.in_err-learn.ensures.learns)

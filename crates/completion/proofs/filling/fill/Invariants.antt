@@ -9,5 +9,5 @@ invariant-loop-turn g l =
     record {
       paths_kept : Kept initial.paths l.paths;
       cuts_kept : Kept initial.cuts l.cuts;
-      filling : Filling g.K.SetKind.mem g.K.SetKind.holds (g.D.Drawing.means l.drawing) initial.paths initial.cuts l.paths l.cuts l.search l._turn;
+      filling : Filling g.K.SetKind.mem g.K.SetKind.holds (g.D.Drawing.means l.from_cuts.drawing.now) initial.paths initial.cuts l.paths l.cuts l.search l._turn;
     }

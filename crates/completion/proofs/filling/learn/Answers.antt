@@ -8,7 +8,7 @@ use Rattle.completion.proofs.filling.learn.Goals as goal
 
 pub returns-then-works-clause-learns : goal.returns-then-works-clause-learns
 returns-then-works-clause-learns g c n ps cs pos hp hc items missed pm cm =
-    let φ = g.D.Drawing.means c.args.drawing.now in
+    let φ = g.D.Drawing.means c.args.from_cuts.now.drawing.now in
     let p = c.add.ensures.adds n ps pos hp missed.0 (c.if-works.ensures.0 refl) missed.1.0 pm in (
       p.0,
       cs,
@@ -20,7 +20,7 @@ returns-then-works-clause-learns g c n ps cs pos hp hc items missed pm cm =
 
 pub returns-else-works-clause-learns : goal.returns-else-works-clause-learns
 returns-else-works-clause-learns g c n ps cs pos hp hc items missed pm cm =
-    let φ = g.D.Drawing.means c.args.drawing.now in
+    let φ = g.D.Drawing.means c.args.from_cuts.now.drawing.now in
     let s = c.args.missed.now in
     let f = c.flipped in
     let fails : T (φ.works (up s)) → ⊥ = λ t. both_ways _ refl (c.if-works.ensures.1 (missed.0 ∙ sym items, t)) in
