@@ -202,16 +202,43 @@ held_next f others front behind rest cs first o next parts is e h =
     (subst (λ (l : List Numbers). MatchOption o (EachRow l (λ p. Fails (map f front) p → ⊥)) (λ i. (i < length l) × Fails (map f front) (get_or l i nothing))) (sym (take-map f first others)) is) e
     (subst (λ (l : List Numbers). Held (map f others) cs l first) (sym (ap (map f) parts) ∙ map-append f front behind) h)
 
--- no cut is left: the path at `first`, or none
-pub held_few : {X : Type 0} (f : X → Numbers) (few others : List X) (cs : List Numbers) → EachRow (map f few) (λ p. Fails cs p → ⊥) → others ≡ [] → EachRow (map f (few ++ others)) (λ p. Fails cs p → ⊥)
-held_few f few others cs each none = each_both f few others (λ p. Fails cs p → ⊥) each (λ i lt. absurd (omega (arith, ap (λ l. length (map f l)) none)))
+-- ---- the path at `first`, or none
+module _ {X A : Type 0} (f : X → Numbers) (v : A → X) (ps : List X) (cs rest : List Numbers) (first : ℕ) (h : Held (map f ps) cs rest first) where
+  found_at : (a : A) → (first < length ps) × HoldsAt (λ y. v a ≡ y) ps first → IsRow f ps (v a) × Fails cs (f (v a))
+  found_at a at_first =
+      let there : first < length (map f ps) = simp length-map at_first.0 in
+      let means : get_or (map f ps) first nothing ≡ f (v a) = get_or-map f ps first (v a) nothing at_first.0 ∙ ap f (sym (at_first.1 (v a))) in
+      (record { row = first; there = there; means = means }, subst (Fails cs) means (h.found there))
 
-pub held_found : {X A : Type 0} (f : X → Numbers) (v : A → X) (few others : List X) (cs : List Numbers) (first : ℕ) (o : Option A) → EachRow (map f few) (λ p. Fails cs p → ⊥) → Held (map f others) cs [] first
-    → MatchOption o (length others ≤ first) (λ a. (first < length others) × HoldsAt (λ y. v a ≡ y) others first)
-    → MatchOption o (EachRow (map f (few ++ others)) (λ p. Fails cs p → ⊥)) (λ a. IsRow f (few ++ others) (v a) × Fails cs (f (v a)))
-held_found f v few others cs first None each h past =
-    each_both f few others (λ p. Fails cs p → ⊥) each (λ i lt w. no_fails _ (h.none (omega (arith, past, h.inside, length-map others f)) i lt w))
-held_found f v few others cs first (Some a) each h at_first =
-    let there : first < length (map f others) = simp length-map at_first.0 in
-    let means : get_or (map f others) first nothing ≡ f (v a) = get_or-map f others first (v a) nothing at_first.0 ∙ ap f (sym (at_first.1 (v a))) in
-    (row_of_others f few others (v a) (record { row = first; there = there; means = means }), subst (Fails cs) means (h.found there))
+  -- no cut is left
+  pub held_all : (o : Option A) → rest ≡ [] → MatchOption o (length ps ≤ first) (λ a. (first < length ps) × HoldsAt (λ y. v a ≡ y) ps first)
+      → MatchOption o (EachRow (map f ps) (λ p. Fails cs p → ⊥)) (λ a. IsRow f ps (v a) × Fails cs (f (v a)))
+  held_all None over past = λ i lt w. no_fails _ (subst (λ (l : List Numbers). Fails l (get_or (map f ps) i nothing)) over (h.none (omega (arith, past, h.inside, length-map ps f)) i lt w))
+  held_all (Some a) over at_first = found_at a at_first
+
+  -- it is the first of all
+  pub held_first : (o : Option A) → first ≡ 0 → MatchOption o (length ps ≤ first) (λ a. (first < length ps) × HoldsAt (λ y. v a ≡ y) ps first)
+      → MatchOption o (EachRow (map f ps) (λ p. Fails cs p → ⊥)) (λ a. IsRow f ps (v a) × Fails cs (f (v a)))
+  held_first None over past = λ i lt. absurd (omega (arith, past, over, lt, length-map ps f))
+  held_first (Some a) over at_first = found_at a at_first
+
+-- ---- paths held one after another: what is found among the rest is found of all
+pub record Ahead {X : Type 0} (f : X → Numbers) (ps rest : List X) (P : Numbers → Type 0) : Type 0 where
+  pub row : (x : X) → IsRow f rest x → IsRow f ps x
+  pub each : EachRow (map f rest) (λ p. P p → ⊥) → EachRow (map f ps) (λ p. P p → ⊥)
+
+module _ {X : Type 0} (f : X → Numbers) (P : Numbers → Type 0) where
+  pub ahead_all : (ps : List X) → Ahead f ps ps P
+  ahead_all ps = record { row = λ x r. r; each = λ e. e }
+
+  -- none is found among the first of the rest
+  pub ahead_more : (ps few others : List X) → EachRow (map f few) (λ p. P p → ⊥) → Ahead f ps (few ++ others) P → Ahead f ps others P
+  ahead_more ps few others none a = record { row = λ x r. a.row x (row_of_others f few others x r); each = λ e. a.each (each_both f few others (λ p. P p → ⊥) none e) }
+
+  pub ahead_few : {A : Type 0} (v : A → X) (ps few others : List X) (x : A) → IsRow f few (v x) × P (f (v x)) → Ahead f ps (few ++ others) P → IsRow f ps (v x) × P (f (v x))
+  ahead_few v ps few others x r a = (a.row (v x) (row_of_few f few others (v x) r.0), r.1)
+
+  pub ahead_found : {A : Type 0} (v : A → X) (ps rest : List X) (o : Option A) → Ahead f ps rest P
+      → MatchOption o (EachRow (map f rest) (λ p. P p → ⊥)) (λ x. IsRow f rest (v x) × P (f (v x))) → MatchOption o (EachRow (map f ps) (λ p. P p → ⊥)) (λ x. IsRow f ps (v x) × P (f (v x)))
+  ahead_found v ps rest None a each = a.each each
+  ahead_found v ps rest (Some x) a r = (a.row (v x) r.0, r.1)

@@ -1,5 +1,5 @@
 // The audit of a path table and a cut table.
-ghost use Rattle.std.specs.Prelude.{◌≡◌, ℕ, List, map, IfOk, MatchOption, MatchResult};
+ghost use Rattle.std.specs.Prelude.{◌≡◌, ℕ, List, map, IfOk, MatchOption, MatchResult, ◌≤◌};
 ghost use Rattle.sets.specs.Sets.{Numbers};
 ghost use Rattle.systems.specs.Systems.{EachRow, Fails};
 ghost use Rattle.tables.specs.Memory.{meant};
@@ -37,31 +37,64 @@ pub fn check_pair<K: SetKind>(paths: &Table<K>, cuts: &Table<K>) -> Result<usize
     Ok(n)
 }
 
-// The first path with which some cut has no common item: a few paths are held against the cuts one by one, it may be over then, and the
-// others against blocks of them.
+// How many paths are held against the cuts one by one before blocks of the cuts are made. It may be over by then, and a block has to pay for
+// itself: late, and later the more items its cuts have, where one step holds a set against another.
+fn alone<K: SetKind>(cuts: &[Row<K>]) -> usize
+    ensures { 4 ≤ result }
+{
+    if K::ceiling() > 64 {
+        return 4;
+    }
+    let items = cuts.first().map_or(0, |cut| cut.set().size());
+    items.saturating_mul(24).max(4)
+}
+
+// The first path with which some cut has no common item.
 pub(crate) fn first_apart<'p, K: SetKind>(
     paths: &'p [Row<K>],
     cuts: &[Row<K>],
 ) -> Option<&'p Row<K>>
     ensures { MatchOption result (EachRow (map (meant K.mem) paths.now) (λ p. Fails (map (meant K.mem) cuts.now) p → ⊥)) (λ path. IsRow (meant K.mem) paths.now path.now × Fails (map (meant K.mem) cuts.now) (meant K.mem path.now)) }
 {
-    let (few, others) = paths.split_at(paths.len().min(4));
+    let (few, others) = paths.split_at(paths.len().min(alone(cuts)));
     if let Some(path) = few.iter().find(|path| some_apart(path, cuts)) {
         return Some(path);
     }
-    if others.is_empty() {
-        return None;
+    first_of_many(others, cuts)
+}
+
+// The same, with more and more paths at once held against blocks of the cuts, so that what an early answer leaves in vain stays in proportion.
+fn first_of_many<'p, K: SetKind>(paths: &'p [Row<K>], cuts: &[Row<K>]) -> Option<&'p Row<K>>
+    ensures { MatchOption result (EachRow (map (meant K.mem) paths.now) (λ p. Fails (map (meant K.mem) cuts.now) p → ⊥)) (λ path. IsRow (meant K.mem) paths.now path.now × Fails (map (meant K.mem) cuts.now) (meant K.mem path.now)) }
+{
+    let mut at_once = (alone(cuts) / 4).max(16);
+    let mut rest = paths;
+    'turns: while !rest.is_empty() {
+        let (some, others) = rest.split_at(rest.len().min(at_once));
+        if let Some(path) = first_in_blocks(some, cuts) {
+            return Some(path);
+        }
+        at_once = at_once.saturating_mul(2);
+        rest = others;
     }
-    let mut first = others.len();
+    None
+}
+
+// The same, with all of these paths at once. (Not inlined, so that the memory of a block is made for it alone.)
+#[inline(never)]
+fn first_in_blocks<'p, K: SetKind>(paths: &'p [Row<K>], cuts: &[Row<K>]) -> Option<&'p Row<K>>
+    ensures { MatchOption result (EachRow (map (meant K.mem) paths.now) (λ p. Fails (map (meant K.mem) cuts.now) p → ⊥)) (λ path. IsRow (meant K.mem) paths.now path.now × Fails (map (meant K.mem) cuts.now) (meant K.mem path.now)) }
+{
+    let mut first = paths.len();
     let mut rest = cuts;
-    'holding: while !rest.is_empty() {
+    'holding: while first > 0 && !rest.is_empty() {
         let (cuts, behind) = rest.split_at(rest.len().min(ROOM));
         first = Block::of(cuts)
-            .first_apart(&others[..first])
+            .first_apart(&paths[..first])
             .unwrap_or(first);
         rest = behind;
     }
-    others.get(first)
+    paths.get(first)
 }
 
 // Whether both tables describe the same system; else a state that both cover, or one that neither covers.

@@ -10,11 +10,19 @@ use systems::State;
 use tables::Row;
 use tables::table::MOST_ROWS;
 
-// Most tables have no more rows than this; memory for more masks takes longer to make.
-const FEW_ROWS: usize = 1024;
+// The memory for masks is as large as the tables need, in four steps: it is made in each call, and a function makes room for all that it names.
+const FEWEST_ROWS: usize = 32;
+
+const FEW_ROWS: usize = 256;
+
+const MANY_ROWS: usize = 1024;
 
 // Memory for the masks of two tables, and their planes.
+const FEWEST_MASKS: usize = 2 * (PLANES + FEWEST_ROWS);
+
 const FEW_MASKS: usize = 2 * (PLANES + FEW_ROWS);
+
+const MANY_MASKS: usize = 2 * (PLANES + MANY_ROWS);
 
 const MOST_MASKS: usize = 2 * (PLANES + MOST_ROWS);
 
@@ -68,13 +76,53 @@ impl Search {
             && self.high.count() <= 64
             && all_low(paths)
             && all_low(cuts);
-        let few = paths.len() <= FEW_ROWS && cuts.len() <= FEW_ROWS;
-        match (low, few) {
-            (true, true) => self.find(paths, cuts, &mut [WordSet::empty(); FEW_MASKS]),
-            (true, false) => self.find(paths, cuts, &mut [WordSet::empty(); MOST_MASKS]),
-            (false, true) => self.find(paths, cuts, &mut [Marks::none(); FEW_MASKS]),
-            (false, false) => self.find(paths, cuts, &mut [Marks::none(); MOST_MASKS]),
+        let rows = paths.len().max(cuts.len());
+        match (low, rows) {
+            (true, 0..=FEWEST_ROWS) => self.find_in_words::<K, FEWEST_MASKS>(paths, cuts),
+            (true, 0..=FEW_ROWS) => self.find_in_words::<K, FEW_MASKS>(paths, cuts),
+            (true, 0..=MANY_ROWS) => self.find_in_words::<K, MANY_MASKS>(paths, cuts),
+            (true, _) => self.find_in_words::<K, MOST_MASKS>(paths, cuts),
+            (false, 0..=FEWEST_ROWS) => self.find_in_marks::<K, FEWEST_MASKS>(paths, cuts),
+            (false, 0..=FEW_ROWS) => self.find_in_marks::<K, FEW_MASKS>(paths, cuts),
+            (false, 0..=MANY_ROWS) => self.find_in_marks::<K, MANY_MASKS>(paths, cuts),
+            (false, _) => self.find_in_marks::<K, MOST_MASKS>(paths, cuts),
         }
+    }
+
+    // The same, with so many masks of one word, where all items lie below 64. (Not inlined, so that its memory is made for it alone.)
+    #[inline(never)]
+    fn find_in_words<K: SetKind, const MASKS: usize>(
+        &mut self,
+        paths: &[Row<K>],
+        cuts: &[Row<K>],
+    ) -> Option<State>
+        requires low { self.old.low.count ≤ 64 }
+        requires high { self.old.high.count ≤ 64 }
+        requires paths { EachRow (map (meant K.mem) paths.now) (Below 64) }
+        requires cuts { EachRow (map (meant K.mem) cuts.now) (Below 64) }
+        requires room { 26 ≤ MASKS }
+        requires most { MASKS ≤ 8218 }
+        ensures stands { (n : ℕ) → Stands n self.old → Stands n self.new }
+        ensures behind { (n : ℕ) → Stands n self.old → Behind n (map (meant K.mem) paths.now) (map (meant K.mem) cuts.now) self.old → Behind n (map (meant K.mem) paths.now) (map (meant K.mem) cuts.now) self.new }
+        ensures found { (n : ℕ) → Stands n self.old → MatchOption result (Behind n (map (meant K.mem) paths.now) (map (meant K.mem) cuts.now) self.old → AllCovered n (map (meant K.mem) paths.now) (map (meant K.mem) cuts.now)) (MissedState n (map (meant K.mem) paths.now) (map (meant K.mem) cuts.now)) }
+    {
+        self.find(paths, cuts, &mut [WordSet::empty(); MASKS])
+    }
+
+    // The same, with so many masks of four words.
+    #[inline(never)]
+    fn find_in_marks<K: SetKind, const MASKS: usize>(
+        &mut self,
+        paths: &[Row<K>],
+        cuts: &[Row<K>],
+    ) -> Option<State>
+        requires room { 26 ≤ MASKS }
+        requires most { MASKS ≤ 8218 }
+        ensures stands { (n : ℕ) → Stands n self.old → Stands n self.new }
+        ensures behind { (n : ℕ) → Stands n self.old → Behind n (map (meant K.mem) paths.now) (map (meant K.mem) cuts.now) self.old → Behind n (map (meant K.mem) paths.now) (map (meant K.mem) cuts.now) self.new }
+        ensures found { (n : ℕ) → Stands n self.old → MatchOption result (Behind n (map (meant K.mem) paths.now) (map (meant K.mem) cuts.now) self.old → AllCovered n (map (meant K.mem) paths.now) (map (meant K.mem) cuts.now)) (MissedState n (map (meant K.mem) paths.now) (map (meant K.mem) cuts.now)) }
+    {
+        self.find(paths, cuts, &mut [Marks::none(); MASKS])
     }
 
     // The same, in memory for masks of a kind that has room for all items. A split that an earlier call opened tells nothing of these rows:
