@@ -69,7 +69,7 @@ module _ (n : ℕ) (fs : List Frame) (low high : State) (h : Half n fs low high)
   pub path_here : Stronger (left_path n fs) (λ r. is_within r (up high))
   path_here = stronger_within (greatest n fs) (up high) (λ k e. h.highs k ∙ e)
 
-  path_there : Stronger (λ r. is_within r (up high)) (left_path n fs)
+  pub path_there : Stronger (λ r. is_within r (up high)) (left_path n fs)
   path_there = stronger_within (up high) (greatest n fs) (λ k e. sym (h.highs k) ∙ e)
 
   -- a path that is up in the least state of the half is left in it
@@ -79,7 +79,7 @@ module _ (n : ℕ) (fs : List Frame) (low high : State) (h : Half n fs low high)
   pub cut_here : Stronger (left_cut fs) (λ r. is_apart r (up low))
   cut_here = stronger_apart (least fs) (up low) (λ k e. sym (h.lows k) ∙ e)
 
-  cut_there : Stronger (λ r. is_apart r (up low)) (left_cut fs)
+  pub cut_there : Stronger (λ r. is_apart r (up low)) (left_cut fs)
   cut_there = stronger_apart (up low) (least fs) (λ k e. h.lows k ∙ e)
 
   -- and a cut that is down in the greatest

@@ -4,10 +4,12 @@ pub mod Planes
 pub mod Masking
 pub mod Swapping
 pub mod Sifting
+pub mod Passing
 pub mod Stacking
 pub mod Halving
 pub mod Findings
 pub mod Asides
+pub mod Narrowing
 pub mod Choosing
 pub mod Judging
 pub mod Blocking

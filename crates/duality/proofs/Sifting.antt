@@ -8,20 +8,20 @@ use Rattle.std.proofs.lemmas.List.{length-map, length-replicate, take-map, get_o
 use Rattle.std.proofs.lemmas.List.Sums.{sum_by-cons, sum_by-append}
 use Rattle.std.proofs.lemmas.List.Folds.{list_any-append}
 use Rattle.std.proofs.lemmas.List.Sorted.{sum_by-IsPermutation, IsPermutation-append_comm, IsPermutation-append_left, IsPermutation-map, length_permutation}
-use Rattle.std.proofs.lemmas.List.Elements.{All-replicate}
+use Rattle.std.proofs.lemmas.List.Elements.{All-replicate, filter_passes}
 use Rattle.sets.specs.Sets.{Numbers, nothing}
 use Rattle.systems.specs.Systems.{EachRow}
 use Rattle.tables.specs.Memory.{meant}
 use Rattle.tables.specs.declared.row.Row.{Row}
 use Rattle.duality.specs.Shares.{Tallied, counted, having}
-use Rattle.duality.specs.Remaining.{Alike, Stronger, any_row, standing, left_masks, Counted, Fits, Sifted, Unmoved, kept}
+use Rattle.duality.specs.Remaining.{Alike, Stronger, any_row, AllPass, standing, left_masks, Counted, Fits, Sifted, Unmoved, kept}
 use Rattle.duality.specs.declared.left.Left.{Left}
 use Rattle.duality.proofs.RowFacts.{any_map}
 use Rattle.duality.proofs.Tallies.{having_split, having_moved}
 
 -- ---- lists in which the same rows pass
 module _ {test : Numbers → Bool} where
-  alike_itself : (xs : List Numbers) → Alike test xs xs
+  pub alike_itself : (xs : List Numbers) → Alike test xs xs
   alike_itself xs = record { alike = λ q s. refl }
 
   pub alike_then : {xs ys zs : List Numbers} → Alike test xs ys → Alike test ys zs → Alike test xs zs
@@ -219,7 +219,7 @@ module _ {M K : Type 0} (bits : M → Numbers) (mem : K → Numbers) (before aft
   }
 
   pub sifted_after : (test : Numbers → Bool) → take after.count front ≡ filter (λ m. test (bits m)) (take before.count before.masks.now) → Sifted bits mem test before after
-  unfolding standing
+  unfolding standing left_masks
   sifted_after test kept = record {
     fits = fits_after;
     counts = counts;
@@ -235,6 +235,11 @@ module _ {M K : Type 0} (bits : M → Numbers) (mem : K → Numbers) (before aft
         subst (λ l. Alike test (map (meant mem) before.behind.now ++ map bits (take before.count before.masks.now)) (map (meant mem) l ++ map bits (take after.count after.masks.now))) (ap (λ b. b.now) (sym behind))
         (alike_append (alike_itself (map (meant mem) before.behind.now))
         (subst (Alike test (map bits (take before.count before.masks.now))) (sym p) (alike_filter (map bits (take before.count before.masks.now)))));
+    only =
+        let p : map bits (take after.count after.masks.now) ≡ filter test (map bits (take before.count before.masks.now)) =
+        ap (λ l. map bits (take after.count l)) masks ∙ passing before.masks.now before.count h.inside front moved after.count fewer bits test kept in
+        subst (AllPass test) (sym p) (filter_passes test (map bits (take before.count before.masks.now)));
+    behind = behind;
   }
 
 -- some row stays exactly where some row passes

@@ -8,6 +8,9 @@
 --   Undecided     of a half with this least and this greatest state: a path is up in the greatest and none in the least, a cut is down in
 --                 the least and none in the greatest
 --   Found         what has come out of it
+--   Narrowed      of the paths and the cuts that have a mask only those may be left that are left in the half: no item of the path is down
+--                 in it, no item of the cut up
+--   Leaves        so they are, where the half has to be split
 use Rattle.std.specs.Prelude.{◌≡◌, ℕ, ◌⊎◌, List}
 use Rattle.sets.specs.Sets.{Numbers, Below}
 use Rattle.systems.specs.States.{up}
@@ -15,6 +18,8 @@ use Rattle.systems.specs.Systems.{Works, Fails, Missed, EachRow}
 use Rattle.systems.specs.declared.state.State.{State}
 use Rattle.duality.specs.Halves.{opened, Half, Settled, Covered}
 use Rattle.duality.specs.Asides.{left_path, left_cut, AsideOf}
+use Rattle.duality.specs.Shares.{is_within, is_apart}
+use Rattle.duality.specs.Remaining.{AllPass, left_masks}
 use Rattle.duality.specs.declared.left.Left.{Left}
 use Rattle.duality.specs.declared.search.Search.{Search}
 use Rattle.duality.specs.declared.search.Finding.{Finding}
@@ -49,3 +54,12 @@ abbrev pub Found : ℕ → List Numbers → List Numbers → Search → Finding 
 Found n ps cs s Closed = Works ps (up s.low) ⊎ Fails cs (up s.high)
 Found n ps cs s Open = Undecided ps cs (up s.low) (up s.high)
 Found n ps cs s (Misses state) = MissedState n ps cs state
+
+pub record Narrowed {M K : Type 0} (bits : M → Numbers) (s : Search) (left_paths left_cuts : Left M K) : Type 0 where
+  pub paths : AllPass (λ p. is_within p (up s.high)) (left_masks bits left_paths)
+  pub cuts : AllPass (λ c. is_apart c (up s.low)) (left_masks bits left_cuts)
+
+abbrev pub Leaves : {M K : Type 0} → (M → Numbers) → Search → Left M K → Left M K → Finding → Type 0
+Leaves bits s left_paths left_cuts Closed = Unit {0}
+Leaves bits s left_paths left_cuts Open = Narrowed bits s left_paths left_cuts
+Leaves bits s left_paths left_cuts (Misses state) = Unit {0}

@@ -1,7 +1,9 @@
--- The share of some rows that has an item, and the tests of rows in a state. Assumes nothing.
+-- The rows that are left in a half, and the share of them that has an item. Assumes nothing.
 --
 --   is_within    the first set of items is within the second, as a test
 --   is_apart     the two have no common item, as a test
+--   left_paths   the paths that have no item down, where the items up in `high` are not down
+--   left_cuts    the cuts that have no item up, where the items up in `low` are
 --   having       how many of the rows have the item
 --   share        the larger of two fractions, of the paths that have the item and of the cuts that have it, over the
 --                common denominator: the number of paths times the number of cuts
@@ -18,6 +20,12 @@ is_within s t = within_below 256 s t
 
 unfoldable pub is_apart : Numbers → Numbers → Bool
 is_apart s t = within_below 256 s (λ k. not (t k))
+
+unfoldable pub left_paths : List Numbers → Numbers → List Numbers
+left_paths paths high = filter (λ p. is_within p high) paths
+
+unfoldable pub left_cuts : List Numbers → Numbers → List Numbers
+left_cuts cuts low = filter (λ c. is_apart c low) cuts
 
 unfoldable pub having : List Numbers → ℕ → ℕ
 having rows k = length (filter (λ r. r k) rows)

@@ -42,16 +42,16 @@ enum Finding {
 }
 
 impl Search {
-    ghost use Rattle.std.specs.Prelude.{◌≡◌, ℕ, ◌+◌, ◌≤◌, not, ◌&&◌, ◌||◌, List, [], length, map, MatchOption};
+    ghost use Rattle.std.specs.Prelude.{◌≡◌, ℕ, ◌+◌, ◌≤◌, not, ◌&&◌, ◌||◌, List, [], ◌++◌, length, map, MatchOption};
     ghost use Rattle.std.specs.List.{list_any};
     ghost use Rattle.sets.specs.Sets.{Numbers, Within, Below};
     ghost use Rattle.systems.specs.States.{up};
     ghost use Rattle.systems.specs.Systems.{Works, Fails, EachRow};
     ghost use Rattle.tables.specs.Memory.{meant};
     ghost use Rattle.duality.specs.Halves.{opened, backed};
-    ghost use Rattle.duality.specs.Shares.{Leads, is_within, is_apart};
-    ghost use Rattle.duality.specs.Remaining.{Fits, Sifted, Unmoved, standing, left_masks};
-    ghost use Rattle.duality.specs.Searches.{Stands, Behind, AllCovered, MissedState, Known, Found};
+    ghost use Rattle.duality.specs.Shares.{Leads, is_within, is_apart, left_paths, left_cuts};
+    ghost use Rattle.duality.specs.Remaining.{AllPass, Fits, Sifted, Thinned, Unmoved, standing, left_masks};
+    ghost use Rattle.duality.specs.Searches.{Stands, Behind, AllCovered, MissedState, Known, Found, Narrowed, Leaves};
 
     // A search among the states of n items, of which there are at most 256.
     pub fn new(n: usize) -> Search
@@ -189,6 +189,9 @@ impl Search {
         ensures cuts { Fits M.bits cuts.new }
         ensures known { (n : ℕ) (ps cs : List Numbers) → Known M.bits K.mem n ps cs self.now paths.old cuts.old → Known M.bits K.mem n ps cs self.now paths.new cuts.new }
         ensures found { (n : ℕ) (ps cs : List Numbers) → Known M.bits K.mem n ps cs self.now paths.old cuts.old → Found n ps cs self.now result }
+        ensures thinned_paths { Thinned M.bits K.mem paths.old paths.new }
+        ensures thinned_cuts { Thinned M.bits K.mem cuts.old cuts.new }
+        ensures only { Leaves M.bits self.now paths.new cuts.new result }
     {
         if self.is_closed(paths, cuts) {
             Finding::Closed
@@ -213,6 +216,8 @@ impl Search {
         ensures cuts { Fits M.bits cuts.new }
         ensures known { (n : ℕ) (ps cs : List Numbers) → Known M.bits K.mem n ps cs self.now paths.now cuts.old → Known M.bits K.mem n ps cs self.now paths.now cuts.new }
         ensures found { (n : ℕ) (ps cs : List Numbers) → Known M.bits K.mem n ps cs self.now paths.now cuts.old → Works ps (up self.now.high) → (Fails cs (up self.now.high) → ⊥) → Found n ps cs self.now result }
+        ensures thinned { Thinned M.bits K.mem cuts.old cuts.new }
+        ensures only { AllPass (λ p. is_within p (up self.now.high)) (left_masks M.bits paths.now) → Leaves M.bits self.now paths.now cuts.new result }
     {
         if self.path_is_up(paths) {
             Finding::Closed
@@ -235,6 +240,8 @@ impl Search {
         ensures paths { Fits M.bits paths.new }
         ensures known { (n : ℕ) (ps cs : List Numbers) → Known M.bits K.mem n ps cs self.now paths.old cuts.now → Known M.bits K.mem n ps cs self.now paths.new cuts.now }
         ensures found { (n : ℕ) (ps cs : List Numbers) → Known M.bits K.mem n ps cs self.now paths.old cuts.now → Fails cs (up self.now.low) → (Works ps (up self.now.low) → ⊥) → Found n ps cs self.now result }
+        ensures thinned { Thinned M.bits K.mem paths.old paths.new }
+        ensures only { AllPass (λ c. is_apart c (up self.now.low)) (left_masks M.bits cuts.now) → Leaves M.bits self.now paths.new cuts.now result }
     {
         if self.cut_is_down(cuts) {
             Finding::Closed
@@ -309,6 +316,7 @@ impl Search {
         requires paths { Fits M.bits paths.old }
         requires cuts { Fits M.bits cuts.old }
         ensures chosen { MatchOption result (Within (up self.now.high) (up self.now.low)) (Leads (left_masks M.bits paths.old) (left_masks M.bits cuts.old) (λ k. up self.now.high k && not (up self.now.low k))) }
+        ensures leads { (n : ℕ) (ps cs first_paths first_cuts : List Numbers) → Known M.bits K.mem n ps cs self.now paths.old cuts.old → Narrowed M.bits self.now paths.old cuts.old → ps ≡ first_paths ++ map (meant K.mem) paths.old.behind.now → cs ≡ first_cuts ++ map (meant K.mem) cuts.old.behind.now → MatchOption result (Within (up self.now.high) (up self.now.low)) (Leads (left_paths first_paths (up self.now.high)) (left_cuts first_cuts (up self.now.low)) (λ k. up self.now.high k && not (up self.now.low k))) }
         ensures paths { Fits M.bits paths.new }
         ensures cuts { Fits M.bits cuts.new }
         ensures same_paths { Unmoved paths.old paths.new }

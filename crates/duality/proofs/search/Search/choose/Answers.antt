@@ -1,11 +1,13 @@
 use mathlib.Core.Path.{fun_ext}
 use Rattle.std.proofs.Common.{◌≡◌, List, ◌&&◌, not, MatchOption, sym, ap₂, ◌∙◌, subst}
-use Rattle.sets.specs.Sets.{Numbers, NoneFrom}
+use Rattle.sets.specs.Sets.{Numbers, NoneFrom, Within}
 use Rattle.systems.specs.States.{up}
 use Rattle.duality.specs.Shares.{Leads, Tallied}
 use Rattle.duality.specs.Remaining.{left_masks}
 use Rattle.duality.proofs.Sifting.{now_tallied, same_masks, many_masks}
 use Rattle.duality.proofs.Choosing.{chosen}
+use Rattle.duality.proofs.Passing.{some_leads}
+use Rattle.duality.proofs.Narrowing.{paths_those, cuts_those}
 use Rattle.duality.proofs.search.Search.choose.Goals as goal
 
 pub returns-clause-chosen : goal.returns-clause-chosen
@@ -28,3 +30,10 @@ returns-clause-chosen g c =
     chosen (up s.low) (up s.high) (Leads (left_masks bits c.args.paths.now) (left_masks bits c.args.cuts.now) undecided) c.choose.result
     (subst (λ (rows : List Numbers). MatchOption c.choose.result (NoneFrom undecided 0) (Leads rows (left_masks bits c.args.cuts.now) undecided)) of_paths
     (subst (λ (rows : List Numbers). MatchOption c.choose.result (NoneFrom undecided 0) (Leads ps rows undecided)) of_cuts leads))
+
+-- the masks that may be left are those of the rows that are left
+pub returns-clause-leads : goal.returns-clause-leads
+returns-clause-leads g c n ps cs first_paths first_cuts known narrowed p q =
+    let s = c.args.self.now in
+    some_leads (paths_those known first_paths p narrowed.paths) (cuts_those known first_cuts q narrowed.cuts) (λ k. up s.high k && not (up s.low k))
+    (Within (up s.high) (up s.low)) c.choose.result (returns-clause-chosen g c)
