@@ -64,10 +64,13 @@ turned_down (f ∷ fs) g rest =
     (λ _ e. turned_down fs g rest e)
 
 -- ---- in the second half of a split the least state is that of the half which was split
+pub split_least : (n : ℕ) (fs : List Frame) (g : Frame) (rest : List Frame) (low high : State) → g ∷ rest ≡ backed fs → Half n (g ∷ rest) low high → up low ≡ least rest
+split_least n fs g rest low high e h =
+    let down : g.up ≡ false = turned_down fs g rest (sym e) in
+    fun_ext (λ j. h.lows j ∙ ap (λ b. cond (eqb j g.item) b (least rest j)) down ∙ kept_mark (least rest) g.item j false h.fresh.1)
+
 pub split_low : (n : ℕ) (ps cs : List Numbers) (d split : ℕ) (fs gs : List Frame) (low high : State) → OpenSince n ps cs d gs → gs ≡ backed fs → length gs ≡ split + 1 → d ≤ split → Half n gs low high → Fails cs (up low) × (Works ps (up low) → ⊥)
 split_low n ps cs d split fs [] low high k e long le h = absurd (omega arith)
 split_low n ps cs d split fs (g ∷ rest) low high k e long le h =
     let u : Undecided ps cs (least rest) (greatest n rest) = k.0 (omega arith) in
-    let down : g.up ≡ false = turned_down fs g rest (sym e) in
-    let same : up low ≡ least rest = fun_ext (λ j. h.lows j ∙ ap (λ b. cond (eqb j g.item) b (least rest j)) down ∙ kept_mark (least rest) g.item j false h.fresh.1) in
-    subst (λ s. Fails cs s × (Works ps s → ⊥)) (sym same) (u.cut, u.no_path)
+    subst (λ s. Fails cs s × (Works ps s → ⊥)) (sym (split_least n fs g rest low high e h)) (u.cut, u.no_path)

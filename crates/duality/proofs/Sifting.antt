@@ -21,7 +21,7 @@ use Rattle.duality.proofs.Tallies.{having_split, having_moved}
 
 -- ---- lists in which the same rows pass
 module _ {test : Numbers → Bool} where
-  pub alike_itself : (xs : List Numbers) → Alike test xs xs
+  alike_itself : (xs : List Numbers) → Alike test xs xs
   alike_itself xs = record { alike = λ q s. refl }
 
   pub alike_then : {xs ys zs : List Numbers} → Alike test xs ys → Alike test ys zs → Alike test xs zs

@@ -11,16 +11,19 @@
 --   Narrowed      of the paths and the cuts that have a mask only those may be left that are left in the half: no item of the path is down
 --                 in it, no item of the cut up
 --   Leaves        so they are, where the half has to be split
-use Rattle.std.specs.Prelude.{◌≡◌, ℕ, ◌⊎◌, List}
+--   Led           each open split from the place d on is by an undecided item of the half that was split, and none has a larger share of
+--                 the rows that are left in it
+use Rattle.std.specs.Prelude.{◌≡◌, ℕ, ◌≤◌, not, ◌&&◌, ◌⊎◌, List, [], ◌∷◌, length}
 use Rattle.sets.specs.Sets.{Numbers, Below}
 use Rattle.systems.specs.States.{up}
 use Rattle.systems.specs.Systems.{Works, Fails, Missed, EachRow}
 use Rattle.systems.specs.declared.state.State.{State}
-use Rattle.duality.specs.Halves.{opened, Half, Settled, Covered}
+use Rattle.duality.specs.Halves.{opened, least, greatest, Half, Settled, Covered}
 use Rattle.duality.specs.Asides.{left_path, left_cut, AsideOf}
-use Rattle.duality.specs.Shares.{is_within, is_apart}
+use Rattle.duality.specs.Shares.{Leads, is_within, is_apart, left_paths, left_cuts}
 use Rattle.duality.specs.Remaining.{AllPass, left_masks}
 use Rattle.duality.specs.declared.left.Left.{Left}
+use Rattle.duality.specs.declared.splits.Frame.{Frame}
 use Rattle.duality.specs.declared.search.Search.{Search}
 use Rattle.duality.specs.declared.search.Finding.{Finding}
 use Rattle.duality.specs.declared.search.Finding.TheVariants.{Closed, Open, Missed as Misses}
@@ -63,3 +66,8 @@ abbrev pub Leaves : {M K : Type 0} → (M → Numbers) → Search → Left M K �
 Leaves bits s left_paths left_cuts Closed = Unit {0}
 Leaves bits s left_paths left_cuts Open = Narrowed bits s left_paths left_cuts
 Leaves bits s left_paths left_cuts (Misses state) = Unit {0}
+
+abbrev pub Led : ℕ → List Numbers → List Numbers → ℕ → List Frame → Type 0
+Led n ps cs d [] = Unit {0}
+Led n ps cs d (f ∷ fs) =
+    (d ≤ length fs → Leads (left_paths ps (greatest n fs)) (left_cuts cs (least fs)) (λ k. greatest n fs k && not (least fs k)) f.item) × Led n ps cs d fs

@@ -1,5 +1,5 @@
 // Which rows of a table may still be left in a half.
-ghost use Rattle.std.specs.Prelude.{◌≡◌, ℕ, ◌<◌, ◌≤◌, Bool, Some, map, length, slice_index};
+ghost use Rattle.std.specs.Prelude.{◌≡◌, ℕ, ◌+◌, ◌<◌, ◌≤◌, Bool, Some, [], map, length, slice_index};
 ghost use Rattle.std.specs.List.{list_any};
 ghost use Rattle.std.specs.Fn.{FnReturnsAt};
 ghost use Rattle.sets.specs.Sets.{Numbers, Below};
@@ -34,6 +34,7 @@ impl<'r, M: Mask, K: SetKind> Left<'r, M, K> {
         ensures fits { Fits M.bits result }
         ensures all { Alike any_row (map (meant K.mem) rows.now) (standing M.bits K.mem result result.count) }
         ensures counts { (split : ℕ) → split < 256 → slice_index result.counts split ≡ result.count }
+        ensures behind { 13 + length rows.now ≤ length memory.entry.now → result.behind.now ≡ [] }
     {
         let (planes, places) = memory.split_at_mut(PLANES);
         let count = rows.len().min(places.len());

@@ -42,7 +42,7 @@ enum Finding {
 }
 
 impl Search {
-    ghost use Rattle.std.specs.Prelude.{◌≡◌, ℕ, ◌+◌, ◌≤◌, not, ◌&&◌, ◌||◌, List, [], ◌++◌, length, map, MatchOption};
+    ghost use Rattle.std.specs.Prelude.{◌≡◌, ℕ, ◌+◌, ◌*◌, ◌≤◌, not, ◌&&◌, ◌||◌, List, [], ◌++◌, length, map, MatchOption};
     ghost use Rattle.std.specs.List.{list_any};
     ghost use Rattle.sets.specs.Sets.{Numbers, Within, Below};
     ghost use Rattle.systems.specs.States.{up};
@@ -51,7 +51,7 @@ impl Search {
     ghost use Rattle.duality.specs.Halves.{opened, backed};
     ghost use Rattle.duality.specs.Shares.{Leads, is_within, is_apart, left_paths, left_cuts};
     ghost use Rattle.duality.specs.Remaining.{AllPass, Fits, Sifted, Thinned, Unmoved, standing, left_masks};
-    ghost use Rattle.duality.specs.Searches.{Stands, Behind, AllCovered, MissedState, Known, Found, Narrowed, Leaves};
+    ghost use Rattle.duality.specs.Searches.{Stands, Behind, AllCovered, MissedState, Known, Found, Narrowed, Leaves, Led};
 
     // A search among the states of n items, of which there are at most 256.
     pub fn new(n: usize) -> Search
@@ -142,6 +142,7 @@ impl Search {
         ensures stands { (n : ℕ) → Stands n self.old → Stands n self.new }
         ensures behind { (n : ℕ) → Stands n self.old → Behind n (map (meant K.mem) paths.now) (map (meant K.mem) cuts.now) self.old → Behind n (map (meant K.mem) paths.now) (map (meant K.mem) cuts.now) self.new }
         ensures found { (n : ℕ) → Stands n self.old → MatchOption result (Behind n (map (meant K.mem) paths.now) (map (meant K.mem) cuts.now) self.old → AllCovered n (map (meant K.mem) paths.now) (map (meant K.mem) cuts.now)) (MissedState n (map (meant K.mem) paths.now) (map (meant K.mem) cuts.now)) }
+        ensures led { (n d : ℕ) → Stands n self.old → 2 * (13 + length paths.now) ≤ length memory.old → 2 * (13 + length cuts.now) ≤ length memory.old → Led n (map (meant K.mem) paths.now) (map (meant K.mem) cuts.now) d (opened self.old.splits) → Led n (map (meant K.mem) paths.now) (map (meant K.mem) cuts.now) d (opened self.new.splits) }
     {
         let (path_memory, cut_memory) = memory.split_at_mut(memory.len() / 2);
         let mut left_paths = Left::new(path_memory, paths);

@@ -1,5 +1,5 @@
 use Rattle.std.proofs.Common.{◌≡◌, length, refl, sym, ap, ap₂, ◌++◌, ◌∙◌, arith}
-use Rattle.std.proofs.lemmas.List.{length-map, length-take-le, take-append-drop, get_or-replicate}
+use Rattle.std.proofs.lemmas.List.{length-map, length-take-le, take-append-drop, drop_all, get_or-replicate}
 use Rattle.sets.specs.Sets.{Below}
 use Rattle.tables.specs.Memory.{meant}
 use Rattle.duality.proofs.Sifting.{fits_all, standing_all, each_first}
@@ -30,3 +30,9 @@ returns-clause-all g c =
 
 pub returns-clause-counts : goal.returns-clause-counts
 returns-clause-counts g c split lt = get_or-replicate 256 split c.min-count.result 0 lt
+
+pub returns-clause-behind : goal.returns-clause-behind
+returns-clause-behind g c room =
+    let rows = c.args.rows.now in
+    let n = c.min-count.result in
+    c.split_at.ensures.back ∙ drop_all n rows (omega (arith, room, c.split_at_mut-planes.ensures.back_len, c.min-count.ensures))

@@ -1,9 +1,11 @@
-use Rattle.std.proofs.Common.{◌≡◌, ℕ, map}
+use Rattle.std.proofs.Common.{◌≡◌, ℕ, ◌+◌, ◌*◌, ◌≤◌, [], length, map}
 use Rattle.tables.specs.Memory.{meant}
 use Rattle.duality.specs.Halves.{opened}
 use Rattle.duality.specs.Remaining.{Fits}
-use Rattle.duality.specs.Searches.{Stands, Behind, Known, Found}
+use Rattle.duality.specs.Searches.{Stands, Behind, Known, Found, Leaves, Led}
+use Rattle.duality.specs.Asides.{left_cut}
 use Rattle.duality.proofs.Findings.{OpenSince}
+use Rattle.duality.proofs.Narrowing.{PassForOf}
 use Rattle.duality.proofs.Halving.{left}
 use Rattle.duality.proofs.search.Search.find.Given as goal
 
@@ -17,6 +19,11 @@ invariant-halves g l = record {
   behind : (n : ℕ) → Stands n l.initial.self → Behind n (map (meant g.K.SetKind.mem) l.paths) (map (meant g.K.SetKind.mem) l.cuts) l.initial.self → Behind n (map (meant g.K.SetKind.mem) l.paths) (map (meant g.K.SetKind.mem) l.cuts) l.self;
   known : (n : ℕ) → Stands n l.initial.self → Known g.M.Mask.bits g.K.SetKind.mem n (map (meant g.K.SetKind.mem) l.paths) (map (meant g.K.SetKind.mem) l.cuts) l.self l.left_paths l.left_cuts;
   found : (n : ℕ) → Stands n l.initial.self → Found n (map (meant g.K.SetKind.mem) l.paths) (map (meant g.K.SetKind.mem) l.cuts) l.self l.finding;
+  only : (n : ℕ) → Stands n l.initial.self → Leaves g.M.Mask.bits l.self l.left_paths l.left_cuts l.finding;
+  passed : (n : ℕ) → Stands n l.initial.self → PassForOf g.M.Mask.bits left_cut l.left_cuts l.earlier (opened l.self.splits);
+  all_paths : 2 * (13 + length l.paths) ≤ length l.fn.memory → l.left_paths.behind.now ≡ [];
+  all_cuts : 2 * (13 + length l.cuts) ≤ length l.fn.memory → l.left_cuts.behind.now ≡ [];
+  led : (n d : ℕ) → Stands n l.initial.self → 2 * (13 + length l.paths) ≤ length l.fn.memory → 2 * (13 + length l.cuts) ≤ length l.fn.memory → Led n (map (meant g.K.SetKind.mem) l.paths) (map (meant g.K.SetKind.mem) l.cuts) d (opened l.initial.self.splits) → Led n (map (meant g.K.SetKind.mem) l.paths) (map (meant g.K.SetKind.mem) l.cuts) d (opened l.self.splits);
   since : (n : ℕ) → Stands n l.initial.self → OpenSince n (map (meant g.K.SetKind.mem) l.paths) (map (meant g.K.SetKind.mem) l.cuts) l.earlier (opened l.self.splits);
 }
 
