@@ -1,16 +1,17 @@
 -- Laws of `bit`.
-use Rattle.std.proofs.Common.{◌≡◌, ℕ, zero, suc, ◌+◌, ◌-◌, ◌*◌, ◌/◌, ◌%◌, ◌^◌, ◌<◌, Bool, true, false, not, ◌&&◌, ◌||◌, eqb, leb, ◌≢◌, sym, refl, ap, ◌∙◌, ap₂, inl, inr, le_of_suc-le-suc, not-suc-le-zero, add-zero, mod-eq_of_lt, mul_assoc, pow-suc, div-one, add-one, one-add, arith}
+use Rattle.std.proofs.Common.{◌≡◌, ℕ, zero, suc, ◌+◌, ◌-◌, ◌*◌, ◌/◌, ◌%◌, ◌^◌, ◌<◌, Bool, true, false, not, ◌&&◌, ◌||◌, eqb, ltb, leb, ◌≢◌, sym, refl, ap, ◌∙◌, ap₂, inl, inr, le_of_suc-le-suc, not-suc-le-zero, add-zero, mod-eq_of_lt, mul_assoc, pow-suc, div-one, add-one, one-add, arith}
 use native.Mathlib.Nat.{mod-one, div-eq_of_lt, mul-mod_left}
 use lib.Bits.{bit_and, bit_or, bit_xor, and_shr, or_shr, xor_shr, and_mod, or_mod, xor_mod, and_mask, xor_add_and}
 use lib.Count.{ones, count_trailing_zeros, under, ones_cat}
 use Rattle.sets.specs.Sets.{one, count}
 use Rattle.sets.specs.Words.{bit}
 use Rattle.sets.specs.Masks.{unlike}
-use Rattle.std.proofs.lemmas.Bool.{cases_order, cases_lt, lt-leb, le-leb, eq-eqb, ne_eqb, eqb-true}
+use Rattle.std.proofs.lemmas.Bool.{cases_order, cases_lt, lt-leb, le-leb, lt-ltb, le-ltb, eq-eqb, ne_eqb, eqb-true}
+use Rattle.std.proofs.Math.Pow.{pow_mono}
 use Rattle.std.proofs.Math.Bool.{and-true}
 use Rattle.std.proofs.lemmas.Nat.{shl-shr, shr-shr, pow-add, pow_below, mod_below, mod-pow-add, pow_pos, div-add-mod', shr_below}
 
-on_digits : (P : ℕ → ℕ → Type 0) → P 0 0 → P 0 1 → P 1 0 → P 1 1 → (x y : ℕ) → x < 2 → y < 2 → P x y
+pub on_digits : (P : ℕ → ℕ → Type 0) → P 0 0 → P 0 1 → P 1 0 → P 1 1 → (x y : ℕ) → x < 2 → y < 2 → P x y
 on_digits P a b c d zero zero hx hy = a
 on_digits P a b c d zero (suc zero) hx hy = b
 on_digits P a b c d zero (suc (suc y)) hx hy = absurd (omega arith)
@@ -34,23 +35,23 @@ bit_of_xor a b k =
     ap (λ (x : ℕ). eqb (x % 2) 1) (xor_shr a b k) ∙ ap (λ (x : ℕ). eqb x 1) (xor_mod (a / 2 ^ k) (b / 2 ^ k) 1)
     ∙ on_digits (λ x y. eqb (bit_xor x y) 1 ≡ unlike (eqb x 1) (eqb y 1)) refl refl refl refl (a / 2 ^ k % 2) (b / 2 ^ k % 2) (mod_below (a / 2 ^ k) 2 (omega arith)) (mod_below (b / 2 ^ k) 2 (omega arith))
 
-bit_zero : (n : ℕ) → bit n 0 ≡ eqb (n % 2) 1
+pub bit_zero : (n : ℕ) → bit n 0 ≡ eqb (n % 2) 1
 bit_zero n = ap (λ (x : ℕ). eqb (x % 2) 1) (div-one n)
 
-bit_shr : (n k j : ℕ) → bit (n / 2 ^ k) j ≡ bit n (k + j)
+pub bit_shr : (n k j : ℕ) → bit (n / 2 ^ k) j ≡ bit n (k + j)
 bit_shr n k j = ap (λ (x : ℕ). eqb (x % 2) 1) (shr-shr n k j)
 
-bit_suc : (n j : ℕ) → bit n (suc j) ≡ bit (n / 2) j
+pub bit_suc : (n j : ℕ) → bit n (suc j) ≡ bit (n / 2) j
 bit_suc n j = ap (bit n) (sym (one-add j)) ∙ sym (bit_shr n 1 j)
 
 -- past a number's length no bit is set
 pub bit_past : (n k : ℕ) → n < 2 ^ k → bit n k ≡ false
 bit_past n k h = ap (λ (x : ℕ). eqb (x % 2) 1) (div-eq_of_lt h)
 
-bit_single_same : (k : ℕ) → bit (2 ^ k) k ≡ true
+pub bit_single_same : (k : ℕ) → bit (2 ^ k) k ≡ true
 bit_single_same k = ap (λ (x : ℕ). eqb (x % 2) 1) (ap (λ (x : ℕ). x / 2 ^ k) (omega arith) ∙ shl-shr 1 k)
 
-bit_single_below : (j d : ℕ) → bit (2 ^ (suc d + j)) j ≡ false
+pub bit_single_below : (j d : ℕ) → bit (2 ^ (suc d + j)) j ≡ false
 bit_single_below j d =
     ap (λ (x : ℕ). eqb (x % 2) 1) (ap (λ (x : ℕ). x / 2 ^ j) (pow-add 2 (suc d) j) ∙ shl-shr (2 ^ suc d) j)
     ∙ ap (λ (x : ℕ). eqb x 1) (ap (λ (x : ℕ). x % 2) (pow-suc 2 d) ∙ mul-mod_left (2 ^ d) 2)
@@ -82,13 +83,20 @@ bits_same (suc n) a b ha hb h =
     omega (arith, div-add-mod' a 2, div-add-mod' b 2)
 
 -- `!n` of w bits
-bit_ones : (w k : ℕ) → k < w → bit (2 ^ w - 1) k ≡ true
+pub bit_ones : (w k : ℕ) → k < w → bit (2 ^ w - 1) k ≡ true
 bit_ones w k h =
     let e : bit_and (2 ^ k) (2 ^ w - 1) ≡ 2 ^ k = and_mask (2 ^ k) w ∙ mod-eq_of_lt (pow_below k w h) in
     let both : (bit (2 ^ k) k && bit (2 ^ w - 1) k) ≡ true = sym (bit_of_and (2 ^ k) (2 ^ w - 1) k) ∙ ap (λ (x : ℕ). bit x k) e ∙ bit_single_same k in
     ap (λ b. b && bit (2 ^ w - 1) k) (sym (bit_single_same k)) ∙ both
 
-not_is_xor : (w n : ℕ) → n < 2 ^ w → 2 ^ w - 1 - n ≡ bit_xor n (2 ^ w - 1)
+pub bit_low : (n k : ℕ) → bit (2 ^ n - 1) k ≡ ltb k n
+bit_low n k =
+    elim (cases_lt k n) [
+      | inl l ↦ bit_ones n k l ∙ sym (lt-ltb k n l)
+      | inr ge ↦ bit_past (2 ^ n - 1) k (omega (arith, pow_mono ge, pow_pos n)) ∙ sym (le-ltb k n ge)
+    ]
+
+pub not_is_xor : (w n : ℕ) → n < 2 ^ w → 2 ^ w - 1 - n ≡ bit_xor n (2 ^ w - 1)
 not_is_xor w n h =
     let e : bit_and n (2 ^ w - 1) ≡ n = and_mask n w ∙ mod-eq_of_lt h in
     omega (arith, xor_add_and n (2 ^ w - 1))
@@ -153,14 +161,14 @@ count_bits n (suc k) =
 
 -- ---- shifts up, and what a width keeps
 
-bit_mod : (n w j : ℕ) → j < w → bit (n % 2 ^ w) j ≡ bit n j
+pub bit_mod : (n w j : ℕ) → j < w → bit (n % 2 ^ w) j ≡ bit n j
 bit_mod n w j h =
     ap (λ (x : ℕ). bit x j) (sym (and_mask n w)) ∙ bit_of_and n (2 ^ w - 1) j ∙ ap (λ b. bit n j && b) (bit_ones w j h) ∙ and-true (bit n j)
 
-bit_shl : (n k d : ℕ) → bit (n * 2 ^ k) (k + d) ≡ bit n d
+pub bit_shl : (n k d : ℕ) → bit (n * 2 ^ k) (k + d) ≡ bit n d
 bit_shl n k d = sym (bit_shr (n * 2 ^ k) k d) ∙ ap (λ (x : ℕ). bit x d) (shl-shr n k)
 
-bit_shl_low : (n j d : ℕ) → bit (n * 2 ^ (suc d + j)) j ≡ false
+pub bit_shl_low : (n j d : ℕ) → bit (n * 2 ^ (suc d + j)) j ≡ false
 bit_shl_low n j d =
     ap (λ (x : ℕ). bit x j) (ap (λ (x : ℕ). n * x) (pow-add 2 (suc d) j) ∙ sym (mul_assoc n (2 ^ suc d) (2 ^ j)))
     ∙ ap (bit (n * 2 ^ suc d * 2 ^ j)) (sym (add-zero j)) ∙ bit_shl (n * 2 ^ suc d) j 0 ∙ bit_zero (n * 2 ^ suc d)

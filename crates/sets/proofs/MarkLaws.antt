@@ -1,8 +1,9 @@
 -- What the marks owe, over a plain list of words.
-use Rattle.std.proofs.Common.{◌≡◌, ℕ, zero, suc, ◌/◌, ◌%◌, ◌^◌, ◌-◌, ◌<◌, Bool, true, false, not, ◌&&◌, ◌||◌, ◌==◌, cond, nat_lt, T, eqb, Decides, subst, mod-eq_of_lt, List, [], ◌∷◌, length, get_or, set, sym, refl, ap, ap₂, ◌∙◌, inl, inr, arith, get_or-set_same, get_or-set_other}
+use Rattle.std.proofs.Common.{◌≡◌, ℕ, zero, suc, ◌/◌, ◌%◌, ◌^◌, ◌-◌, ◌*◌, ◌<◌, Bool, true, false, not, ◌&&◌, ◌||◌, ◌==◌, cond, nat_lt, T, eqb, Decides, subst, mod-eq_of_lt, List, [], ◌∷◌, length, get_or, set, sym, refl, ap, ap₂, ◌∙◌, inl, inr, arith, get_or-set_same, get_or-set_other}
 use native.Mathlib.Nat.{div-eq_of_lt}
 use lib.Bits.{bit_and, bit_or}
-use Rattle.std.proofs.lemmas.Bool.{cases_eq, cases_lt, eq-eqb, ne_eqb, lt-ltb}
+use Rattle.std.proofs.lemmas.Bool.{cases_eq, cases_lt, eq-eqb, ne_eqb, lt-ltb, le-ltb}
+use Rattle.std.proofs.lemmas.List.{get_or_past}
 use Rattle.std.proofs.lemmas.Bool.Decides.{Decides-like}
 use Rattle.std.proofs.lemmas.Nat.{div-add-mod'}
 use Rattle.sets.specs.Sets.{Numbers, with, without, Within, Apart, Same}
@@ -55,6 +56,37 @@ mark_taken ws k l h j =
     let a = get_or ws (k / 64) 0 in
     word_put ws k (bit_and a (2 ^ 64 - 1 - 2 ^ (k % 64))) false h (λ i. word_without a (k % 64) (omega arith) i ∙ without_cond (word_set a) (k % 64) i) j
     ∙ low_cond k j false (held ws j) l
+
+-- ---- the numbers below one
+
+-- the word of the bits below n
+abbrev pub LowWord : ℕ → ℕ → Type 0
+LowWord n w = Same (word_set w) (λ j. nat_lt j 64 && nat_lt j n)
+
+low_word : (n a b c d : ℕ) → LowWord n a → LowWord (n - 64) b → LowWord (n - 128) c → LowWord (n - 192) d → (i : ℕ) → i < 4 → LowWord (n - 64 * i) (get_or (a ∷ b ∷ c ∷ d ∷ []) i 0)
+low_word n a b c d p q r s zero l = subst (λ m. LowWord m a) (omega arith) p
+low_word n a b c d p q r s (suc zero) l = q
+low_word n a b c d p q r s (suc (suc zero)) l = r
+low_word n a b c d p q r s (suc (suc (suc zero))) l = s
+low_word n a b c d p q r s (suc (suc (suc (suc i)))) l = absurd (omega arith)
+
+low_place : (k n : ℕ) → nat_lt (k % 64) (n - 64 * (k / 64)) ≡ nat_lt k n
+low_place k n =
+    elim (cases_lt k n) [
+      | inl l ↦ lt-ltb (k % 64) (n - 64 * (k / 64)) (omega (arith, div-add-mod' k 64)) ∙ sym (lt-ltb k n l)
+      | inr ge ↦ le-ltb (k % 64) (n - 64 * (k / 64)) (omega (arith, div-add-mod' k 64)) ∙ sym (le-ltb k n ge)
+    ]
+
+pub held_below : (n a b c d : ℕ) → LowWord n a → LowWord (n - 64) b → LowWord (n - 128) c → LowWord (n - 192) d → Same (held (a ∷ b ∷ c ∷ d ∷ [])) (λ k. nat_lt k 256 && nat_lt k n)
+held_below n a b c d p q r s k =
+    let ws = a ∷ b ∷ c ∷ d ∷ [] in
+    elim (cases_lt k 256) [
+      | inl l ↦
+          low_word n a b c d p q r s (k / 64) (omega arith) (k % 64)
+          ∙ ap₂ (λ x y. x && y) (lt-ltb (k % 64) 64 (omega arith) ∙ sym (lt-ltb k 256 l)) (low_place k n)
+      | inr ge ↦
+          ap (λ w. word_set w (k % 64)) (get_or_past ws (k / 64) 0 (omega arith)) ∙ word_none (k % 64) ∙ sym (ap (λ x. x && nat_lt k n) (le-ltb k 256 ge))
+    ]
 
 -- ---- against one word
 

@@ -5,7 +5,7 @@ use lib.Count.{ones, count_trailing_zeros}
 use Rattle.sets.specs.Sets.{Numbers, with, without, Within, Apart, Same, Below, count, Lowest, NoneFrom}
 use Rattle.sets.specs.Words.{bit, word_set}
 use Rattle.sets.specs.Counts.{count_same}
-use Rattle.sets.proofs.Bitwise.{bit_of_and, bit_of_or, bit_single, bit_not, bits_same, bit_past, trailing_low, trailing_here, trailing_some, count_bits}
+use Rattle.sets.proofs.Bitwise.{bit_of_and, bit_of_or, bit_single, bit_not, bits_same, bit_past, bit_low, trailing_low, trailing_here, trailing_some, count_bits}
 use Rattle.std.proofs.Math.Bool.{and_comm, or_comm, and-false}
 use Rattle.std.proofs.lemmas.Bool.{eq-eqb, ne_eqb, eqb-true, eqb-false, not-true, not-false, lt-ltb, le-ltb, cases_lt}
 use Rattle.sets.specs.Truth.{holds_true, true_holds, and_T, T_and}
@@ -45,6 +45,17 @@ word_without a k h =
     (λ j l. bit_of_and a (2 ^ 64 - 1 - 2 ^ k) j ∙ and_comm (bit a j) (bit (2 ^ 64 - 1 - 2 ^ k) j)
     ∙ ap₂ (λ x y. x && y) (bit_not 64 (2 ^ k) j (pow_below k 64 h) l ∙ ap not (bit_single k j)) (sym (word_bit a j l)))
     (λ j l. ap (λ x. not (eqb j k) && x) (word_past a j l) ∙ and-false (not (eqb j k)))
+
+-- the bits below n
+pub word_low : (n : ℕ) → Same (word_set (2 ^ n - 1)) (λ k. ltb k 64 && ltb k n)
+word_low n k = ap (λ b. ltb k 64 && b) (bit_low n k)
+
+pub word_all : (n : ℕ) → 64 ≤ n → Same (word_set (2 ^ 64 - 1)) (λ k. ltb k 64 && ltb k n)
+word_all n h k =
+    word_low 64 k ∙ elim (cases_lt k 64) [
+      | inl l ↦ ap (λ b. ltb k 64 && b) (lt-ltb k 64 l ∙ sym (lt-ltb k n (omega arith)))
+      | inr ge ↦ ap (λ b. b && ltb k 64) (le-ltb k 64 ge) ∙ sym (ap (λ b. b && ltb k n) (le-ltb k 64 ge))
+    ]
 
 -- what two words have in common
 pub word_and : (a b k : ℕ) → word_set (bit_and a b) k ≡ (word_set a k && word_set b k)
@@ -96,10 +107,10 @@ module _ (a k m : ℕ) (ha : a < 2 ^ 64) (hm : m < 2 ^ 64) (is : (j : ℕ) → j
       let h : j < 64 = ltb→lt j 64 p.0 in
       subst T (sym (is j h) ∙ e) (T_and (bit a j) (leb k j) p.1 (le→leb k j l))
 
-  masked_none : m ≡ 0 → NoneFrom (word_set a) k
+  pub masked_none : m ≡ 0 → NoneFrom (word_set a) k
   masked_none e j l t = masked_off j l (ap (λ x. bit x j) e ∙ bit_past 0 j (pow_pos j)) t
 
-  masked_next : m ≢ 0 → Lowest (word_set a) k (count_trailing_zeros 64 m)
+  pub masked_next : m ≢ 0 → Lowest (word_set a) k (count_trailing_zeros 64 m)
   masked_next ne =
       let z = trailing_some 64 m hm ne in
       let n = count_trailing_zeros 64 m in

@@ -1,9 +1,11 @@
 -- Laws of `listed` and `rising`. They stand in specs since the laws of an `impl` can cite nothing in proofs/.
-use Rattle.std.specs.Prelude.{◌≡◌, ℕ, zero, suc, ◌<◌, ◌≤◌, false, ◌&&◌, T, List, [], ◌∷◌, length, ◌==◌, nat_le, nat_lt, slice_index_or}
-use Rattle.std.proofs.Common.{sym, ap, ◌∙◌, inl, inr, arith, add-one, leb→le, le→leb, ltb→lt, lt→ltb, eqb→eq}
+use Rattle.std.specs.Prelude.{◌≡◌, ℕ, zero, suc, ◌<◌, ◌≤◌, Bool, true, false, not, ◌&&◌, ◌||◌, T, List, [], ◌∷◌, length, ◌==◌, nat_le, nat_lt, slice_index_or, refl}
+use Rattle.std.proofs.Common.{sym, ap, subst, ◌∙◌, inl, inr, arith, add-one, leb→le, le→leb, ltb→lt, lt→ltb, eqb→eq}
 use Rattle.std.proofs.Math.Dec.{eqb_refl}
-use Rattle.sets.specs.Sets.{count, listed}
-use Rattle.sets.specs.Rising.{rising}
+use Rattle.std.proofs.lemmas.Bool.{cases_Bool, cond_both, ltb-true, ltb-false}
+use Rattle.std.proofs.lemmas.Bool.Decides.{nat_tests}
+use Rattle.sets.specs.Sets.{with, without, count, listed}
+use Rattle.sets.specs.Rising.{rising, put, differs, cut}
 use Rattle.sets.specs.Truth.{and_T, T_and, or_T, T_or_left, T_or_right, fails_false}
 use Rattle.sets.specs.Counts.{count_none, count_with}
 
@@ -66,3 +68,59 @@ rising_places lo (x ∷ xs) t zero (suc j) d h l =
     let q = listed_bounds (suc x) xs (slice_index_or xs j d) p.2 (listed_at xs j d (omega arith)) in omega arith
 rising_places lo (x ∷ xs) t (suc i) zero d h l = absurd (omega arith)
 rising_places lo (x ∷ xs) t (suc i) (suc j) d h l = rising_places (suc x) xs (rising_parts lo x xs t).2 i j d (omega arith) (omega arith)
+
+-- ---- `put`
+
+or_rotate : (a b c : Bool) → (a || (b || c)) ≡ (b || (a || c))
+or_rotate true true c = refl
+or_rotate true false c = refl
+or_rotate false b c = refl
+
+pub listed_put : (k : ℕ) (xs : List ℕ) (j : ℕ) → listed (put k xs) j ≡ with (listed xs) k j
+listed_put k [] j = refl
+listed_put k (x ∷ xs) j =
+    cond_both (nat_lt k x) (k ∷ put x xs) (x ∷ put k xs) (λ l. listed l j ≡ (j == k || (j == x || listed xs j)))
+    (λ e. ap (λ b. (j == k) || b) (listed_put x xs j))
+    (λ e. ap (λ b. (j == x) || b) (listed_put k xs j) ∙ or_rotate (j == x) (j == k) (listed xs j))
+
+pub length_put : (k : ℕ) (xs : List ℕ) → length (put k xs) ≡ suc (length xs)
+length_put k [] = refl
+length_put k (x ∷ xs) =
+    cond_both (nat_lt k x) (k ∷ put x xs) (x ∷ put k xs) (λ l. length l ≡ suc (suc (length xs)))
+    (λ e. ap suc (length_put x xs)) (λ e. ap suc (length_put k xs))
+
+pub rising_put : (lo k : ℕ) (xs : List ℕ) → T (rising lo xs) → lo ≤ k → k < 256 → listed xs k ≡ false → T (rising lo (put k xs))
+rising_put lo k [] t h l n = rising_cons lo k [] h l tt
+rising_put lo k (x ∷ xs) t h l n =
+    let p = rising_parts lo x xs t in
+    cond_both (nat_lt k x) (k ∷ put x xs) (x ∷ put k xs) (λ z. T (rising lo z))
+    (λ e. rising_cons lo k (put x xs) h l
+    (rising_put (suc k) x xs (rising_from (suc x) (suc k) xs (omega (arith, ltb-true k x e)) p.2) (ltb-true k x e) p.1 (rising_new x xs p.2)))
+    (λ e.
+    let le : x ≤ k = ltb-false k x e in
+    let ne : k ≡ x → ⊥ = λ q. subst T n (T_or_left (k == x) (listed xs k) (subst (λ z. T (k == z)) q (eqb_refl k))) in
+    let out : listed xs k ≡ false = fails_false (listed xs k) (λ m. subst T n (T_or_right (k == x) (listed xs k) m)) in
+    rising_cons lo x (put k xs) p.0 p.1 (rising_put (suc x) k xs p.2 (omega arith) l out))
+
+-- ---- `cut`
+
+pub listed_cut : (k : ℕ) (xs : List ℕ) (j : ℕ) → listed (cut k xs) j ≡ without (listed xs) k j
+listed_cut k [] j = elim (cases_Bool (j == k)) [ inl e ↦ rw e refl | inr e ↦ rw e refl ]
+listed_cut k (x ∷ xs) j =
+    cond_both (differs k x) (x ∷ cut k xs) (cut k xs) (λ l. listed l j ≡ (not (j == k) && (j == x || listed xs j)))
+    (λ e. let ih = listed_cut k xs j in grind (arith, nat_tests))
+    (λ e. let ih = listed_cut k xs j in grind (arith, nat_tests))
+
+pub rising_cut : (lo k : ℕ) (xs : List ℕ) → T (rising lo xs) → T (rising lo (cut k xs))
+rising_cut lo k [] t = tt
+rising_cut lo k (x ∷ xs) t =
+    let p = rising_parts lo x xs t in
+    cond_both (differs k x) (x ∷ cut k xs) (cut k xs) (λ l. T (rising lo l))
+    (λ e. rising_cons lo x (cut k xs) p.0 p.1 (rising_cut (suc x) k xs p.2))
+    (λ e. rising_from (suc x) lo (cut k xs) (omega arith) (rising_cut (suc x) k xs p.2))
+
+pub length_cut : (k : ℕ) (xs : List ℕ) → length (cut k xs) ≤ length xs
+length_cut k [] = omega arith
+length_cut k (x ∷ xs) =
+    cond_both (differs k x) (x ∷ cut k xs) (cut k xs) (λ l. length l ≤ suc (length xs))
+    (λ e. omega (arith, length_cut k xs)) (λ e. omega (arith, length_cut k xs))

@@ -3,7 +3,7 @@ ghost use Rattle.std.specs.Prelude.{◌≡◌, ◌&&◌, ◌==◌, cond, nat_lt}
 ghost use Rattle.sets.specs.Sets.{nothing, Same};
 ghost use Rattle.sets.specs.Marks.{marked};
 
-use crate::word::single;
+use crate::word::{low_bits, single};
 
 #[derive(Clone, Copy, Debug, PartialEq, Eq)]
 pub struct Marks {
@@ -17,6 +17,20 @@ impl Marks {
         ensures { Same (marked result) nothing }
     {
         Marks { words: [0; 4] }
+    }
+
+    // The numbers below n are marked, of those below 256.
+    pub fn below(n: usize) -> Marks
+        ensures { Same (marked result) (λ k. nat_lt k 256 && nat_lt k n) }
+    {
+        Marks {
+            words: [
+                low_bits(n),
+                low_bits(n.saturating_sub(64)),
+                low_bits(n.saturating_sub(128)),
+                low_bits(n.saturating_sub(192)),
+            ],
+        }
     }
 
     #[tactic(auto, unfolding(crate::specs::Marks::marked))]

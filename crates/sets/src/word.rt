@@ -1,6 +1,6 @@
 // The word kind: a set of numbers below 64 in the bits of one word.
-ghost use Rattle.std.specs.Prelude.{◌≡◌, ◌^◌, ◌<◌};
-ghost use Rattle.sets.specs.Sets.{Below};
+ghost use Rattle.std.specs.Prelude.{◌≡◌, ◌^◌, ◌<◌, ◌&&◌, nat_lt};
+ghost use Rattle.sets.specs.Sets.{Same, Below};
 ghost use Rattle.sets.specs.Words.{word_set};
 ghost use Rattle.sets.specs.WordBelow.{word_under};
 ghost use Rattle.std.proofs.Common.{lit≤};
@@ -19,6 +19,13 @@ pub(crate) fn single(k: usize) -> u64
     ensures { result ≡ 2 ^ k }
 {
     1u64 << k
+}
+
+// The word whose bits below k are set.
+pub(crate) fn low_bits(k: usize) -> u64
+    ensures { Same (word_set result) (λ j. nat_lt j 64 && nat_lt j k) }
+{
+    if k < 64 { single(k) - 1 } else { u64::MAX }
 }
 
 impl SetKind for WordSet {
