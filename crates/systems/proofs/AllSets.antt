@@ -22,13 +22,13 @@ module _ (s : Numbers) (n : ℕ) where
         | inr q ↦ ap (λ b. b || (not b && s k)) (ne_eqb k n q)
       ])
 
-  below_without : Below (suc n) s → Below n (without s n)
+  pub below_without : Below (suc n) s → Below n (without s n)
   below_without low k t =
       let p = and_T (not (eqb k n)) (s k) t in
       let ne : k ≡ n → ⊥ = λ q. T_not (eqb k n) p.0 (subst (λ m. T (eqb k m)) q (eqb_refl k)) in
       omega (arith, low k p.1)
 
-  below_not : Below (suc n) s → s n ≡ false → Below n s
+  pub below_not : Below (suc n) s → s n ≡ false → Below n s
   below_not low e k t =
       let ne : k ≡ n → ⊥ = λ q. subst T (ap s q ∙ e) t in
       omega (arith, low k t)

@@ -31,7 +31,7 @@ one_has : (b : Bool) → T b → 1 ≤ one b
 one_has true t = omega arith
 one_has false t = absurd t
 
-count_has : (s : Numbers) (n : ℕ) → T (s 0) → 1 ≤ n → 1 ≤ count s n
+pub count_has : (s : Numbers) (n : ℕ) → T (s 0) → 1 ≤ n → 1 ≤ count s n
 unfolding count
 count_has s zero t h = absurd (omega arith)
 count_has s (suc zero) t h = omega (arith, one_has (s 0) t)

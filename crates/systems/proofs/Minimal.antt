@@ -25,16 +25,16 @@ stays false h = absurd (h tt)
 -- no row contains another, and the rows tell for every set below n whether the test holds: some row is within it
 module _ (n : ℕ) (test : Numbers → Bool) (rows : List Numbers) (low : EachRow rows (Below n)) (anti : Antichain rows)
     (tells : (s : Numbers) → Below n s → Decides (test s) (Works rows s)) where
-  row_holds : EachRow rows (λ r. test r ≡ true)
+  pub row_holds : EachRow rows (λ r. test r ≡ true)
   row_holds i h = (tells (get_or rows i nothing) (low i h)).1 (record { row = i; there = h; up = λ k t. t })
 
-  row_least : EachRow rows (λ r. (q : Numbers) → ProperSubset q r → test q ≡ true → ⊥)
+  pub row_least : EachRow rows (λ r. (q : Numbers) → ProperSubset q r → test q ≡ true → ⊥)
   row_least i h q p e =
       let w = (tells q (λ k t. low i h k (p.0 k t))).0 e in
       let same : w.row ≡ i = anti w.row i w.there h (λ k t. p.0 k (w.up k t)) in
       p.1 (subst (λ j. Within (get_or rows j nothing) q) same w.up)
 
-  least_among : (s : Numbers) → Below n s → test s ≡ true → ((q : Numbers) → ProperSubset q s → test q ≡ true → ⊥) → Among rows s
+  pub least_among : (s : Numbers) → Below n s → test s ≡ true → ((q : Numbers) → ProperSubset q s → test q ≡ true → ⊥) → Among rows s
   least_among s b e least =
       let w = (tells s b).0 e in
       let r = get_or rows w.row nothing in
@@ -45,7 +45,7 @@ module _ (n : ℕ) (test : Numbers → Bool) (rows : List Numbers) (low : EachRo
       ] in
       record { row = w.row; there = w.there; same = within_both r s w.up back }
 
-  rows_once : Once rows
+  pub rows_once : Once rows
   rows_once i j hi hj e = anti i j hi hj (λ k t. subst T (e k) t)
 
 -- ---- the rows of a structure function
@@ -118,7 +118,7 @@ module _ (φ : Structure) (paths cuts : List Numbers)
 
 -- by a test of every state
 module _ (n : ℕ) (paths cuts : List Numbers) (ps : EachRow paths (Below n)) (cs : EachRow cuts (Below n)) where
-  covered_by_test : T (all_sets n (λ s. works_test n paths s || fails_test n cuts s)) → (s : Numbers) → Below n s → Works paths s ⊎ Fails cuts s
+  pub covered_by_test : T (all_sets n (λ s. works_test n paths s || fails_test n cuts s)) → (s : Numbers) → Below n s → Works paths s ⊎ Fails cuts s
   covered_by_test t s b =
       elim (or_T (works_test n paths s) (fails_test n cuts s) (all_sets_at n (λ r. works_test n paths r || fails_test n cuts r) t s b)) [
         | inl h ↦ inl ((decides_works n paths ps s).0 (holds_true (works_test n paths s) h))

@@ -25,7 +25,7 @@ module _ (items nodes : ℕ) (lines : List Line) (s : Numbers) where
     next_walk : (r : Bool) → Next r → ((k : ℕ) → T (mid k) → Walk items nodes lines s k) → (k : ℕ) → T (after k) → Walk items nodes lines s k
     next_walk r c w k t = ⊎_elim (w k) (λ x. along i low x.1 x.2 (w x.0 x.3)) (c.sound k t)
 
-    passed_new : Next true → Passed items nodes lines s (i + 1) before after true
+    pub passed_new : Next true → Passed items nodes lines s (i + 1) before after true
     passed_new c = record {
       grown = λ k t. c.grown k (p.grown k t);
       sound = λ h. next_walk true c (p.sound h);
@@ -34,7 +34,7 @@ module _ (items nodes : ℕ) (lines : List Line) (s : Numbers) where
       fresh = λ _. let f = c.fresh refl in (f.0, f.1, fails_false (before f.0) (λ t. subst T f.2 (p.grown f.0 t)), f.3);
     }
 
-    passed_same : Next false → Passed items nodes lines s (i + 1) before after more
+    pub passed_same : Next false → Passed items nodes lines s (i + 1) before after more
     passed_same c = record {
       grown = λ k t. c.grown k (p.grown k t);
       sound = λ h. next_walk false c (p.sound h);

@@ -10,7 +10,7 @@ use Rattle.systems.specs.Systems.{Works, Fails, EachRow, Antichain}
 
 -- ---- rows by their numbers
 
-abbrev numbers_below : ℕ → List ℕ → Bool
+abbrev pub numbers_below : ℕ → List ℕ → Bool
 numbers_below n [] = true
 numbers_below n (x ∷ xs) = ltb x n && numbers_below n xs
 
@@ -18,7 +18,7 @@ abbrev pub lists_below : ℕ → List (List ℕ) → Bool
 lists_below n [] = true
 lists_below n (xs ∷ xss) = numbers_below n xs && lists_below n xss
 
-listed_below : (n : ℕ) (xs : List ℕ) → T (numbers_below n xs) → Below n (listed xs)
+pub listed_below : (n : ℕ) (xs : List ℕ) → T (numbers_below n xs) → Below n (listed xs)
 listed_below n [] t k m = absurd m
 listed_below n (x ∷ xs) t k m =
     let p = and_T (ltb x n) (numbers_below n xs) t in
@@ -34,11 +34,11 @@ rows_below n (xs ∷ xss) t (suc i) h = rows_below n xss (and_T (numbers_below n
 
 -- ---- each row, some row
 
-abbrev each_row : (Numbers → Bool) → List Numbers → Bool
+abbrev pub each_row : (Numbers → Bool) → List Numbers → Bool
 each_row f [] = true
 each_row f (r ∷ rs) = f r && each_row f rs
 
-each_row_at : (f : Numbers → Bool) (rows : List Numbers) → T (each_row f rows) → EachRow rows (λ r. T (f r))
+pub each_row_at : (f : Numbers → Bool) (rows : List Numbers) → T (each_row f rows) → EachRow rows (λ r. T (f r))
 each_row_at f [] t i h = absurd (not-suc-le-zero h)
 each_row_at f (r ∷ rs) t zero h = (and_T (f r) (each_row f rs) t).0
 each_row_at f (r ∷ rs) t (suc i) h = each_row_at f rs (and_T (f r) (each_row f rs) t).1 i (le_of_suc-le-suc h)
@@ -47,7 +47,7 @@ abbrev pub some_row : (Numbers → Bool) → List Numbers → Bool
 some_row f [] = false
 some_row f (r ∷ rs) = f r || some_row f rs
 
-abbrev SomeRow : List Numbers → (Numbers → Type 0) → Type 0
+abbrev pub SomeRow : List Numbers → (Numbers → Type 0) → Type 0
 SomeRow rows P = (i : ℕ) × (i < length rows) × P (get_or rows i nothing)
 
 module _ (P : Numbers → Type 0) (r : Numbers) (rs : List Numbers) where
@@ -94,10 +94,10 @@ module _ (n : ℕ) (rows : List Numbers) (low : EachRow rows (Below n)) (s : Num
 
 -- ---- no row contains another
 
-abbrev unlike_below : ℕ → Numbers → Numbers → Bool
+abbrev pub unlike_below : ℕ → Numbers → Numbers → Bool
 unlike_below n s t = not (within_below n s t) && not (within_below n t s)
 
-abbrev antichain_test : ℕ → List Numbers → Bool
+abbrev pub antichain_test : ℕ → List Numbers → Bool
 antichain_test n [] = true
 antichain_test n (r ∷ rs) = each_row (unlike_below n r) rs && antichain_test n rs
 

@@ -33,7 +33,7 @@ module _ (items : ℕ) (s : Numbers) where
   some_row_same [] = refl
   some_row_same (r ∷ rs) = ap (λ b. row_up items r s || b) (some_row_same rs)
 
-  decides_rows : (rows : List Numbers) → EachRow rows (Below 256) → Decides (rows_work items rows s) (RowUp items rows s)
+  pub decides_rows : (rows : List Numbers) → EachRow rows (Below 256) → Decides (rows_work items rows s) (RowUp items rows s)
   decides_rows rows low =
       Decides-like (rows_work items rows s)
       (λ h. record { few = h.0; row = h.1.0; there = h.1.1; inside = h.1.2.0; up = h.1.2.1 })

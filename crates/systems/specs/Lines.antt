@@ -84,7 +84,7 @@ module _ (items nodes : ℕ) (s t : Numbers) (h : Within s t) where
       (both_more (is_open items nodes s l) (leads l m b) (is_open items nodes t l) (leads l o b) (open_more l) (leads_more l m o g b))
       (crossed_more ls m o g b)
 
-  reached_more : (lines : List Line) (k : ℕ) → Within (reached items nodes lines s k) (reached items nodes lines t k)
+  pub reached_more : (lines : List Line) (k : ℕ) → Within (reached items nodes lines s k) (reached items nodes lines t k)
   unfolding reached
   reached_more lines zero b = λ x. x
   reached_more lines (suc k) b =

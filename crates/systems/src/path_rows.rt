@@ -1,6 +1,7 @@
 // The row drawing: path rows.
-ghost use Rattle.std.specs.Prelude.{map};
-ghost use Rattle.systems.specs.PathRows.{row_structure};
+ghost use Rattle.std.specs.Prelude.{◌≤◌, map, length, Decides};
+ghost use Rattle.systems.specs.States.{up};
+ghost use Rattle.systems.specs.PathRows.{RowUp, row_structure};
 
 use crate::drawing::Drawing;
 use crate::state::State;
@@ -14,6 +15,14 @@ pub struct RowDrawing<'a, K: SetKind> {
     pub rows: &'a [K],
 }
 
+// Whether one of the rows is up.
+fn some_up<K: SetKind>(rows: &[K], state: &State) -> bool
+    requires { length rows.now ≤ 4096 }
+    ensures { Decides result (RowUp state.now.count (map K.mem rows.now) (up state.now)) }
+{
+    rows.iter().any(|row| all_up(row, state))
+}
+
 impl<'a, K: SetKind> Drawing for RowDrawing<'a, K> {
     ghost means = { λ d. row_structure d.items (map K.mem d.rows.now) };
 
@@ -22,8 +31,6 @@ impl<'a, K: SetKind> Drawing for RowDrawing<'a, K> {
     }
 
     fn works(&self, state: &State) -> bool {
-        state.count() == self.items
-            && self.rows.len() <= 4096
-            && self.rows.iter().any(|row| all_up(row, state))
+        state.count() == self.items && self.rows.len() <= 4096 && some_up(self.rows, state)
     }
 }

@@ -2,7 +2,7 @@
 ghost use Rattle.std.specs.Prelude.{◌≡◌, ℕ, ◌≤◌, false};
 ghost use Rattle.sets.specs.Marks.{marked as has_mark};
 
-use sets::Marks;
+use sets::{Marks, Mask};
 
 // The marks from the count on are down.
 #[derive(Clone, Copy, Debug, PartialEq, Eq)]
@@ -14,7 +14,7 @@ pub struct State {
 }
 
 impl State {
-    ghost use Rattle.std.specs.Prelude.{◌<◌, if◌then◌else◌, nat_le};
+    ghost use Rattle.std.specs.Prelude.{if◌then◌else◌, nat_le};
     ghost use Rattle.sets.specs.Sets.{nothing, Same};
     ghost use Rattle.systems.specs.States.{up, marked};
     ghost use Rattle.systems.specs.Systems.{others};
@@ -29,20 +29,6 @@ impl State {
             count,
             marks: Marks::none(),
         }
-    }
-
-    // The items up of which the rule says so; of 0 items if asked for more than 256. (A loop: over `array::from_fn` it is not proved that
-    // a closure which calls the rule stays as it was.)
-    pub(crate) fn from_fn<F: Fn(usize) -> bool>(count: usize, rule: F) -> State
-        requires { F.IsAlwaysCallable rule }
-        ensures count { result.count ≡ (if nat_le count 256 then count else 0) }
-        ensures marks { (k : ℕ) → k < result.count → F.post rule k (up result k) }
-    {
-        let mut state = State::new(count);
-        for item in 0..state.count {
-            state.set(item, rule(item));
-        }
-        state
     }
 
     // Which items are up, as marks.
@@ -79,6 +65,9 @@ impl State {
         ensures count { result.count ≡ self.now.count }
         ensures marks { Same (up result) (others self.now.count (up self.now)) }
     {
-        State::from_fn(self.count, |item| !self.is_up(item))
+        State {
+            count: self.count,
+            marks: Marks::below(self.count).xor(self.marks),
+        }
     }
 }

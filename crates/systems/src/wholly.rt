@@ -29,6 +29,9 @@ pub fn alone_up<K: SetKind>(n: usize, set: &K) -> State
     let mut state = State::new(n);
     let mut from = 0;
     'up: while let Some(item) = set.next(from) {
+        if item >= state.count() {
+            break;
+        }
         state.set(item, true);
         from = item + 1;
     }
