@@ -35,7 +35,8 @@ impl<'a> Spread<'a> {
         }
     }
 
-    // Marks the node at the other end of an open line of which one end is marked, and says whether it did.
+    // Marks the node at the other end of an open line of which one end is marked, and says whether it did. The state is asked last: the ends
+    // of most lines are marked alike.
     fn cross(&mut self, line: &Line) -> bool
         ensures same { (self.new.drawing ≡ self.old.drawing) × (self.new.state ≡ self.old.state) }
         ensures crossed { Crossed self.old.state.now.count self.old.drawing.now.nodes (up self.old.state.now) line.now (marks_of self.old.marks) (marks_of self.new.marks) result }
